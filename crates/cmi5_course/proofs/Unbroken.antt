@@ -1,23 +1,25 @@
 -- What follows for the nodes of a course from the rules that it doesn't break.
-use Rattle.std.proofs.Common.{◌≡◌, ℕ, List, [], ◌∷◌, ◌++◌, Bool, true, false, ◌&&◌, ◌||◌, ◌⊎◌, inl, inr, Option, Some}
+use Rattle.std.proofs.Common.{◌≡◌, ℕ, List, [], ◌∷◌, ◌++◌, Bool, true, false, ◌&&◌, inl, inr, Option, Some}
 use Rattle.std.proofs.Common.{None, is_some, codes, map, refl, sym, ap, ◌∙◌}
-use Rattle.std.specs.Prelude.{IsTrue, IsSome, IfSome, ◌↔◌, is_none, flat_map, option_and_then, unwrap_or, slice_get}
+use Rattle.std.specs.Prelude.{is_none, flat_map, option_and_then, unwrap_or, slice_get}
 use Rattle.std.specs.Prelude.{if◌then◌else◌}
 use Rattle.std.specs.Option.{option_map_or}
 use Rattle.std.specs.Ordering.{is_le}
-use Rattle.std.proofs.lemmas.Bool.{false≢true}
+use Rattle.std.specs.Cmp.{first_so, second_so}
+use Rattle.std.proofs.lemmas.Bool.{false≢true, or_cases}
 use Rattle.lrs_decimal.specs.Values.{order}
 use Rattle.lrs_json.specs.Json.{Json, null, boolean, number, string, array, object}
 use Rattle.lrs_json.specs.Find.{find}
-use Rattle.lrs_agents.proofs.AgentLemmas.{none_left, none_right}
+use Rattle.lrs_json.specs.Parts.{text_in}
+use Rattle.lrs_agents.proofs.AgentLemmas.{is_met, none_left, none_right}
 use Rattle.lrs_names.specs.Iris.{is_iri}
-use Rattle.lrs_names.specs.Members.{is_string_that, text_of, has_only, has_member, has_member_that, faults_of_member}
+use Rattle.lrs_names.specs.Members.{is_string_that, has_only, has_member, has_member_that, faults_of_member}
 use Rattle.lrs_names.specs.Members.{text_under}
 use Rattle.lrs_names.specs.Rules.{unless, least}
 use Rattle.cmi5_course.specs.SpelledNodes.{SpelledNode, spelled_node, nodes_in, nodes_under}
 use Rattle.cmi5_course.specs.Units.{is_at_most, is_score}
 use Rattle.lrs_decimal.specs.Range.{is_decimal}
-use Rattle.lrs_names.specs.Members.{spelling_of, spelling_under}
+use Rattle.lrs_names.specs.Members.{spelling_of}
 use Rattle.cmi5_course.specs.Rules.{is_course, is_block, is_unit, is_node, is_of_kind, has_title, unit_members}
 use Rattle.cmi5_course.specs.Rules.{id_faults, move_on_faults, mastery_faults, method_faults, form_faults}
 use Rattle.cmi5_course.specs.Rules.{shared_faults, title_faults, launch_faults, content_faults, node_faults}
@@ -25,50 +27,34 @@ use Rattle.cmi5_course.specs.Rules.{have_distinct_ids, is_within_limits, nodes_f
 use Rattle.cmi5_course.specs.Courses.{node_of, nodes_of, first_id}
 use Rattle.cmi5_course.specs.declared.course.Node.{Node}
 
-pub is_met : (met : Bool) (rule : ℕ) → least (unless met rule) ≡ None → met ≡ true
-is_met true rule e = refl
-is_met false rule e = cc e
-
-pub first_true : (x y : Bool) → (x && y) ≡ true → x ≡ true
-first_true true y e = refl
-first_true false y e = e
-
-pub second_true : (x y : Bool) → (x && y) ≡ true → y ≡ true
-second_true true y e = e
-second_true false y e = absurd (false≢true e)
-
-pub one_of : (x y : Bool) → (x || y) ≡ true → (x ≡ true) ⊎ (y ≡ true)
-one_of true y e = inl refl
-one_of false y e = inr e
-
 -- ---- ids
 
 titled : (j : Json) → has_title j ≡ true → has_member (codes "id") j ≡ true
-titled j e = first_true (has_member (codes "id") j) (has_member (codes "title") j) e
+titled j e = first_so (has_member (codes "id") j) (has_member (codes "title") j) e
 
 course_titled : (j : Json) → is_course j ≡ true → has_member (codes "id") j ≡ true
 unfolding is_course
 course_titled j e =
-    titled j (second_true (has_only (codes "id" ∷ codes "title" ∷ codes "description" ∷ codes "children" ∷ []) j)
+    titled j (second_so (has_only (codes "id" ∷ codes "title" ∷ codes "description" ∷ codes "children" ∷ []) j)
     (has_title j)
-    (first_true _ (has_member (codes "children") j) e))
+    (first_so _ (has_member (codes "children") j) e))
 
 block_titled : (j : Json) → is_block j ≡ true → has_member (codes "id") j ≡ true
 unfolding is_block
 block_titled j e =
-    titled j (second_true (is_of_kind (codes "block") j && has_only
+    titled j (second_so (is_of_kind (codes "block") j && has_only
     (codes "kind" ∷ codes "id" ∷ codes "title" ∷ codes "description" ∷ codes "children" ∷ []) j) (has_title j)
-    (first_true _ (has_member (codes "children") j) e))
+    (first_so _ (has_member (codes "children") j) e))
 
 unit_titled : (j : Json) → is_unit j ≡ true → has_member (codes "id") j ≡ true
 unfolding is_unit
 unit_titled j e =
-    titled j (second_true (is_of_kind (codes "unit") j && has_only unit_members j) (has_title j) (first_true _
+    titled j (second_so (is_of_kind (codes "unit") j && has_only unit_members j) (has_title j) (first_so _
     (has_member (codes "url") j) e))
 
 node_titled : (j : Json) → is_node j ≡ true → has_member (codes "id") j ≡ true
 node_titled j e =
-    elim (one_of (is_block j) (is_unit j) e) [ inl block ↦ block_titled j block | inr unit ↦ unit_titled j unit ]
+    elim (or_cases (is_block j) (is_unit j) e) [ inl block ↦ block_titled j block | inr unit ↦ unit_titled j unit ]
 
 form_titled : (j : Json) (parent : Option ℕ)
     → least (if is_none parent then unless (is_course j) 1 else unless (is_node j) 2) ≡ None
@@ -117,7 +103,7 @@ launch_unbroken node none =
     (content_faults node.value) none)
 
 pub text_found : (test : List ℕ → Bool) (o : Option Json) → option_map_or (is_string_that test) o false ≡ true
-    → (text : List ℕ) × (option_and_then text_of o ≡ Some text) × (test text ≡ true)
+    → (text : List ℕ) × (option_and_then text_in o ≡ Some text) × (test text ≡ true)
 text_found test None e = absurd (false≢true e)
 text_found test (Some null) e = absurd (false≢true e)
 text_found test (Some (boolean b)) e = absurd (false≢true e)
@@ -136,8 +122,8 @@ id_text j e = text_found is_iri (find (codes "id") j) e
 score_in_range : (s : List ℕ) → is_score s ≡ true → is_decimal s ≡ true
 unfolding is_score is_at_most
 score_in_range s e =
-    first_true (is_decimal s) (is_decimal (codes "1")) (first_true (is_decimal s && is_decimal (codes "1")) (is_le
-    (order s (codes "1"))) (second_true (is_at_most (codes "0") s) (is_at_most s (codes "1")) e))
+    first_so (is_decimal s) (is_decimal (codes "1")) (first_so (is_decimal s && is_decimal (codes "1")) (is_le
+    (order s (codes "1"))) (second_so (is_at_most (codes "0") s) (is_at_most s (codes "1")) e))
 
 pub mastery_unbroken : (j : Json) → least (launch_faults j) ≡ None
     → least (faults_of_member (codes "masteryScore") mastery_faults j) ≡ None
@@ -179,20 +165,20 @@ more_unbroken first rest none = (
 )
 
 -- the course itself is the first node
-pub first_place : (j : Json) → (rest : List SpelledNode) × (nodes_in j ≡ spelled_node j None 0 ∷ rest)
+pub first_node : (j : Json) → (rest : List SpelledNode) × (nodes_in j ≡ spelled_node j None 0 ∷ rest)
 unfolding nodes_in
-first_place null = ([], refl)
-first_place (boolean b) = ([], refl)
-first_place (number s) = ([], refl)
-first_place (string s) = ([], refl)
-first_place (array js) = ([], refl)
-first_place (object ms) = (nodes_under 1 0 1 ms, refl)
+first_node null = ([], refl)
+first_node (boolean b) = ([], refl)
+first_node (number s) = ([], refl)
+first_node (string s) = ([], refl)
+first_node (array js) = ([], refl)
+first_node (object ms) = (nodes_under 1 0 1 ms, refl)
 
 -- so a course has a node, the first one, with the id that the tree spells
 pub nodes_stand : (j : Json) (nodes : List Node) → nodes ≡ nodes_of j → None ≡ slice_get nodes 0 → ⊥
 unfolding nodes_of
 nodes_stand j nodes e none =
-    let first = first_place j in
+    let first = first_node j in
     let known : slice_get nodes 0 ≡ Some (node_of (spelled_node j None 0)) = ap (λ (ns : List Node). slice_get ns 0) (e
     ∙ ap (map node_of) first.1) in
     let bad : None ≡ Some (node_of (spelled_node j None 0)) = none ∙ known in
@@ -202,7 +188,7 @@ pub first_id_is : (j : Json) (nodes : List Node) → nodes ≡ nodes_of j → br
     → text_under (codes "id") j ≡ Some (first_id nodes)
 unfolding nodes_of node_of
 first_id_is j nodes e none =
-    let first = first_place j in
+    let first = first_node j in
     let course : SpelledNode = spelled_node j None 0 in
     let unbroken : least (flat_map node_faults (nodes_in j)) ≡ None = nodes_unbroken j (nodes_in j) refl none in
     let own = more_unbroken course first.0 (ap (λ ps. least (flat_map node_faults ps)) (sym first.1) ∙ unbroken) in

@@ -6,7 +6,8 @@ use Rattle.std.specs.Prelude.{position, if◌then◌else◌}
 use Rattle.std.specs.List.{position_from}
 use Rattle.std.specs.Option.{option_map_or}
 use Rattle.std.specs.Str.{bytes_eq}
-use Rattle.std.proofs.lemmas.Bool.{false≢true}
+use Rattle.std.specs.Cmp.{first_so, second_so}
+use Rattle.std.proofs.lemmas.Bool.{false≢true, or_cases}
 use Rattle.std.proofs.lemmas.Iterator.Adapters.{position_from-zero}
 use Rattle.std.proofs.lemmas.Slice.Eq.{bytes_eq-Decides}
 use Rattle.url.specs.Parser.{parse_url, Parsed}
@@ -16,7 +17,7 @@ use Rattle.lrs_json.specs.Json.{Json, null, boolean, number, string, array, obje
 use Rattle.lrs_json.specs.Find.{find}
 use Rattle.lrs_json.specs.View.{view}
 use Rattle.lrs_json.specs.declared.tree.Tree.{Tree}
-use Rattle.lrs_agents.proofs.AgentLemmas.{none_right}
+use Rattle.lrs_agents.proofs.AgentLemmas.{is_met, none_right}
 use Rattle.lrs_names.specs.Members.{is_string_that, is_word, has_only, has_member, faults_of_member, text_under}
 use Rattle.lrs_names.specs.Rules.{unless, least}
 use Rattle.cmi5_course.specs.SpelledNodes.{SpelledNode, nodes_in}
@@ -32,7 +33,7 @@ use Rattle.cmi5_course.specs.Courses.{index_of_unit, unit_at}
 use Rattle.cmi5_course.specs.declared.course.NodeKind.{NodeKind}
 use Rattle.cmi5_course.specs.declared.course.NodeKind.TheVariants.{Course as CourseKind, Block, Unit as UnitKind}
 use Rattle.cmi5_course.specs.declared.course.Node.{Node}
-use Rattle.cmi5_course.proofs.Unbroken.{is_met, first_true, second_true, one_of, text_found, found_score}
+use Rattle.cmi5_course.proofs.Unbroken.{text_found, found_score}
 use Rattle.cmi5_course.proofs.Unbroken.{mastery_unbroken, form_unbroken, launch_unbroken, nodes_unbroken, more_unbroken}
 
 -- ---- kinds
@@ -54,12 +55,12 @@ one_word (Some (object ms)) a b = false≢true a
 unit_form : (j : Json) → is_of_kind (codes "unit") j ≡ true → is_node j ≡ true → is_unit j ≡ true
 unfolding is_block
 unit_form j kind node =
-    elim (one_of (is_block j) (is_unit j) node) [
+    elim (or_cases (is_block j) (is_unit j) node) [
       | inl block ↦
           absurd (one_word (find (codes "kind") j)
-          (first_true (is_of_kind (codes "block") j) (has_only
+          (first_so (is_of_kind (codes "block") j) (has_only
           (codes "kind" ∷ codes "id" ∷ codes "title" ∷ codes "description" ∷ codes "children" ∷ []) j)
-          (first_true _ (has_title j) (first_true _ (has_member (codes "children") j) block))) kind)
+          (first_so _ (has_title j) (first_so _ (has_member (codes "children") j) block))) kind)
       | inr unit ↦ unit
     ]
 
@@ -89,7 +90,7 @@ has_unit UnitKind j e = refl
 
 has_url : (j : Json) → is_unit j ≡ true → has_member (codes "url") j ≡ true
 unfolding is_unit
-has_url j e = second_true (is_of_kind (codes "unit") j && has_only unit_members j && has_title j)
+has_url j e = second_so (is_of_kind (codes "unit") j && has_only unit_members j && has_title j)
     (has_member (codes "url") j) e
 
 url_unbroken : (j : Json) → least (launch_faults j) ≡ None → least (faults_of_member (codes "url") url_faults j) ≡ None
@@ -149,9 +150,9 @@ unit_there : (o : Option Node) (unit : AssignableUnit) → option_and_then (λ n
 unit_there None unit e = cc e
 unit_there (Some node) unit e = (node, refl, e)
 
-place_sound : (node : SpelledNode) (unit : AssignableUnit) → least (node_faults node) ≡ None
+faultless_sound : (node : SpelledNode) (unit : AssignableUnit) → least (node_faults node) ≡ None
     → unit_if (kind_of node) node.value ≡ Some unit → IsSoundUnit unit
-place_sound node unit none e =
+faultless_sound node unit none e =
     let is = unit_is (kind_of node) node.value unit e in
     let kind = chosen (is_none node.parent) (is_unit_node node) is.0 in
     let form = node_form (is_none node.parent) node.value kind.0 (form_unbroken node none) in
@@ -165,7 +166,7 @@ node_sound j nodes index unit read unbroken e =
     let there = unit_there (slice_get nodes index) unit e in
     let at = placed_at (nodes_in j) index there.0 (ap (λ (ns : List Node). slice_get ns index) (sym read) ∙ there.1) in
     let none = node_unbroken (nodes_in j) index at.0 (nodes_unbroken j (nodes_in j) refl unbroken) at.1 in
-    place_sound at.0 unit none (ap (λ (node : Node). node.unit) (sym at.2) ∙ there.2)
+    faultless_sound at.0 unit none (ap (λ (node : Node). node.unit) (sym at.2) ∙ there.2)
 
 -- The URL Standard reads the address of each unit of a course that breaks no rule, and its mastery score is a number in
 -- range.
@@ -218,7 +219,7 @@ unit_stands j nodes id index read e =
     let same : index ≡ found.steps = omega (arith, found.index) in
     let at = placed_at (nodes_in j) found.steps found.item (ap (λ (ns : List Node). slice_get ns found.steps) (sym read)
     ∙ found.at) in
-    let kind : is_unit_kind found.item.kind ≡ true = first_true (is_unit_kind found.item.kind)
+    let kind : is_unit_kind found.item.kind ≡ true = first_so (is_unit_kind found.item.kind)
     (bytes_eq found.item.id id) found.passes in
     let placed_kind : is_unit_kind (kind_of at.0) ≡ true = ap (λ (node : Node). is_unit_kind node.kind) (sym at.2)
     ∙ kind in

@@ -1,5 +1,5 @@
 -- What a launch needs of a unit, as its course spells it (cmi5 Quartz, section 13.1.4).
-use Rattle.std.specs.Prelude.{ℕ, List, [], ◌∷◌, ◌&&◌, Bool, Option, Some, None, codes, option_and_then, unwrap_or}
+use Rattle.std.specs.Prelude.{ℕ, List, [], ◌&&◌, Bool, codes, option_and_then, unwrap_or}
 use Rattle.std.specs.Ordering.{is_le}
 use Rattle.lrs_decimal.specs.Range.{is_decimal}
 use Rattle.lrs_decimal.specs.Values.{order}

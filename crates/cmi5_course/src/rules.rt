@@ -16,8 +16,8 @@ use crate::{Method, MoveOn};
 use lrs_decimal::Decimal;
 use lrs_json::{Memory, Tree};
 use lrs_names::{
-    has_member, has_only, holds_iri, is_language_map, is_string, is_word, lesser, text_of,
-    text_under, unless,
+    has_member, has_only, holds_iri, is_language_map, is_string, is_word, lesser, text_under,
+    unless,
 };
 use std::alloc::Global;
 use std::collections::BTreeSet;

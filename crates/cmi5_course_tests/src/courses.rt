@@ -116,7 +116,7 @@ fn iri(alloc: Global, text: &str) -> Result<Iri, Fail> {
     }
 }
 
-fn unit_place(alloc: Global, course: &Course, id: &str) -> Result<Option<u32>, Fail> {
+fn unit_index(alloc: Global, course: &Course, id: &str) -> Result<Option<u32>, Fail> {
     let id = iri(alloc, id)?;
     Ok(course.unit(&id))
 }
@@ -124,8 +124,8 @@ fn unit_place(alloc: Global, course: &Course, id: &str) -> Result<Option<u32>, F
 fn is_sample(alloc: Global, course: &Course) -> Result<bool, Fail> {
     Ok(
         course.id().text().as_str() == "http://c/1"
-            && unit_place(alloc, course, "http://c/u")? == Some(2)
-            && unit_place(alloc, course, "http://c/b")?.is_none()
+            && unit_index(alloc, course, "http://c/u")? == Some(2)
+            && unit_index(alloc, course, "http://c/b")?.is_none()
             && course.unit_at(2).is_some_and(is_sample_unit)
             && course.unit_at(1).is_none()
             && course.unit_at(3).is_none()

@@ -11,7 +11,7 @@ use Rattle.lrs_time.specs.Duration.{hundredths_text, seconds_text}
 use Rattle.lrs_time.specs.Reading.{duration_at}
 use Rattle.lrs_time.proofs.SecondsLemmas.{seconds_read_back}
 use Rattle.cmi5_launch.specs.Made.{span_text}
-use Rattle.cmi5_launch.specs.declared.made.TheConstants.{LONGEST_SPAN}
+use Rattle.lrs_time.specs.declared.seconds.TheConstants.{LONGEST_SPAN}
 
 letters : IsAscii (codes "PT")
 letters = IsAscii-cons 80 (84 ∷ []) (omega arith) (IsAscii-cons 84 [] (omega arith) IsAscii-nil)
@@ -27,7 +27,7 @@ hundredths_are n small = by_test (n == 0)
     by_test false =
         IsAscii-cons 46 (two_digits n) (omega arith) (IsAscii-cons (48 + n / 10) ((48 + n % 10) ∷ []) (omega arith) (IsAscii-cons (48 + n % 10) [] (omega arith) IsAscii-nil))
 
-seconds_are : (ms : ℕ) → ms ≤ 999_999_999_999 → IsAscii (seconds_text ms)
+seconds_are : (ms : ℕ) → ms ≤ LONGEST_SPAN → IsAscii (seconds_text ms)
 seconds_are ms small =
     let seconds : ms / 1000 < 2 ^ 64 = omega arith in
     let rest = hundredths_text (ms % 1000 / 10) ++ codes "S" in
@@ -35,7 +35,7 @@ seconds_are ms small =
     (IsAscii-append (decimal (ms / 1000)) rest (IsAscii-decimal (ms / 1000) seconds)
     (IsAscii-append (hundredths_text (ms % 1000 / 10)) (codes "S") (hundredths_are (ms % 1000 / 10) (omega arith)) last))
 
-within : (ms : ℕ) → min ms LONGEST_SPAN ≤ 999_999_999_999
+within : (ms : ℕ) → min ms LONGEST_SPAN ≤ LONGEST_SPAN
 within ms = omega arith
 
 pub duration_is_text : (ms : ℕ) → IsUtf8 (span_text ms)

@@ -1,5 +1,5 @@
 pub mod Durations
 pub mod Escapes
 pub mod LongerIris
-pub mod Places
+pub mod FirstBytes
 pub mod Unbroken

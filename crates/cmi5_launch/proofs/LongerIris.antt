@@ -13,7 +13,7 @@ use Rattle.std.proofs.lemmas.Str.Ascii.{IsAscii-cons, IsAscii-nil}
 use Rattle.std.specs.Cmp.{first_so, second_so}
 use Rattle.lrs_names.specs.Iris.{has_some, is_colon, is_iri, is_iri_character, is_scheme}
 use Rattle.cmi5_launch.specs.Activities.{activity_text}
-use Rattle.cmi5_launch.proofs.Places.{other}
+use Rattle.cmi5_launch.proofs.FirstBytes.{other}
 
 -- ---- what stands before and behind the first colon
 
@@ -44,11 +44,11 @@ longer base tail utf8 ascii plain iri =
     let rest : has_some (after_first is_colon base) ≡ true = second_so (is_scheme (before_first is_colon base)) _ (first_so _ _ iri) in
     let characters : list_all is_iri_character (chars base) ≡ true = second_so (is_scheme (before_first is_colon base) && has_some (after_first is_colon base)) _ iri in
     let inside : position_or_len is_colon base + 1 < length base = is_inside (position_or_len is_colon base + 1) base rest in
-    let place : position_or_len is_colon (base ++ tail) ≡ position_or_len is_colon base = position-append is_colon base tail (omega arith) in
+    let found_at : position_or_len is_colon (base ++ tail) ≡ position_or_len is_colon base = position-append is_colon base tail (omega arith) in
     let before : before_first is_colon (base ++ tail) ≡ before_first is_colon base =
-    ap (λ n. take n (base ++ tail)) place ∙ take-append-le (position_or_len is_colon base) base tail (omega arith) in
+    ap (λ n. take n (base ++ tail)) found_at ∙ take-append-le (position_or_len is_colon base) base tail (omega arith) in
     let behind : after_first is_colon (base ++ tail) ≡ after_first is_colon base ++ tail =
-    ap (λ n. drop (n + 1) (base ++ tail)) place ∙ drop-append-le (position_or_len is_colon base + 1) base tail (omega arith) in
+    ap (λ n. drop (n + 1) (base ++ tail)) found_at ∙ drop-append-le (position_or_len is_colon base + 1) base tail (omega arith) in
     let all : list_all is_iri_character (chars (base ++ tail)) ≡ true =
     ap (list_all is_iri_character) (chars-append base tail utf8 ∙ ap (λ t. chars base ++ t) (chars-IsAscii tail ascii)) ∙ list_all-append is_iri_character (chars base) tail
     ∙ ap (λ b. b && list_all is_iri_character tail) characters ∙ plain in

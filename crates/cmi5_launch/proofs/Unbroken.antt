@@ -20,7 +20,7 @@ use Rattle.xapi_statement.specs.XapiRulesContexts.{activities_faults, context_ac
 use Rattle.xapi_statement.specs.XapiRulesNulls.{has_null, items_have_null, role_of_member}
 use Rattle.xapi_statement.specs.XapiRulesObjects.{activity_faults, definition_faults, interaction_faults, is_activity, is_definition, is_interaction}
 use Rattle.xapi_statement.specs.XapiRulesRules.{action_faults, actor_faults, are_timestamps, broken_rule, form_faults, has_no_revision, is_fit_revision, is_verb, is_voided_verb, is_voiding, object_faults, own_faults, shared_faults, statement_faults, verb_faults, voids_reference}
-use Rattle.xapi_statement.specs.XapiRulesNullsRoleTheVariants.{Plain, Object, Described, Holder, Context}
+use Rattle.xapi_statement.specs.XapiRulesNullsNullRoleTheVariants.{Plain, Object, Described, Holder, Context}
 use Rattle.cmi5_course.specs.declared.course.NodeKind.{NodeKind}
 use Rattle.cmi5_course.specs.declared.course.NodeKind.TheVariants.{Course, Block, Unit as UnitKind}
 use Rattle.cmi5_launch.specs.Activities.{activity_json}

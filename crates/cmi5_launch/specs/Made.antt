@@ -13,7 +13,7 @@ use Rattle.cmi5_course.specs.declared.launch.Mode.{Mode}
 use Rattle.cmi5_course.specs.declared.unit.Unit as units
 use Rattle.cmi5_launch.specs.declared.made.Made.{Made}
 use Rattle.cmi5_launch.specs.declared.made.Made.TheVariants.{Launched, Abandoned, Waived, Satisfied}
-use Rattle.cmi5_launch.specs.declared.made.TheConstants.{LONGEST_SPAN}
+use Rattle.lrs_time.specs.declared.seconds.TheConstants.{LONGEST_SPAN}
 use Rattle.cmi5_course.specs.declared.reason.Reason.{Reason}
 use Rattle.cmi5_launch.specs.Activities.{activity_json}
 use Rattle.cmi5_launch.specs.Data.{number_given, only_activity}

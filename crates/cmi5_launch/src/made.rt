@@ -17,12 +17,9 @@ use lrs_agent_texts::building::{push, push_given, push_words, whole};
 use lrs_agents::Agent;
 use lrs_json::{Items, Member, Memory, Tree, utf8_text};
 use lrs_names::{Id, Iri};
-use lrs_time::seconds_text;
+use lrs_time::{LONGEST_SPAN, seconds_text};
 use std::alloc::Global;
 use xapi_statement::Statement;
-
-/// The longest span that a made statement tells, in milliseconds.
-const LONGEST_SPAN: u64 = 999_999_999_999;
 
 /// What the store says of its own, by the kind of statement.
 #[derive(Clone, Copy)]

@@ -33,7 +33,7 @@ pub fn launch_pairs(
         ≡ pairs_text (launch_pairs base.now key.now actor.now registration.now activity.now)) }
 {
     let mut pairs = String::new(alloc);
-    put_places(alloc, base, key, &mut pairs)?;
+    put_addresses(alloc, base, key, &mut pairs)?;
     put_actor(alloc, actor, &mut pairs)?;
     put_pair("&registration=", &registration.text(), &mut pairs)?;
     put_pair("&activityId=", activity.text().as_bytes(), &mut pairs)?;
@@ -41,7 +41,7 @@ pub fn launch_pairs(
 }
 
 // Where the store is, and where the session's token is fetched.
-fn put_places(alloc: Global, base: &Text, key: &Text, pairs: &mut String) -> Result<(), Memory>
+fn put_addresses(alloc: Global, base: &Text, key: &Text, pairs: &mut String) -> Result<(), Memory>
     ensures { OnOk result (string_bytes pairs.new ≡ string_bytes pairs.old
         ++ (codes "endpoint=" ++ escaped (base.now ++ codes "xapi/"))
         ++ (codes "&fetch=" ++ escaped (base.now ++ codes "fetch/" ++ key.now))) }

@@ -181,7 +181,7 @@ fn is_address(alloc: Global, url: &Text) -> Result<(), Fail>
     }
 }
 
-// The place of the first row that is wrong.
+// The index of the first row that is wrong.
 fn wrong_address(alloc: Global, actor: &Agent) -> Result<Option<usize>, Fail> {
     for (i, (url, before, behind)) in ADDRESSES.iter().enumerate() {
         let address = address(alloc, url, actor)?;

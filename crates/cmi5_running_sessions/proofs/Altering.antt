@@ -1,4 +1,4 @@
--- Entries of which one changes, and units in entries of entries.
+-- Maps of which one item changes, and units in maps of maps.
 use Rattle.std.proofs.Common.{◌≡◌, ◌⊎◌, ℕ, ◌<◌, nat_lt, Bool, true, false, cond, if◌then◌else◌, ◌&&◌, List, [], ◌∷◌, length, Option, Some, None, is_some, refl, sym, ap, subst, ◌∙◌, inl, inr, arith, lt-ltb}
 use Rattle.std.specs.Map.{lookup}
 use Rattle.std.specs.Option.{option_map_or, option_or}
@@ -6,7 +6,7 @@ use Rattle.std.specs.Str.{bytes_eq}
 use Rattle.std.proofs.lemmas.Bool.{false≢true}
 use Rattle.std.proofs.lemmas.Map.Text.{is_eq-slice_cmp}
 use Rattle.std.proofs.lemmas.Slice.Eq.{bytes_eq-Decides}
-use Rattle.cmi5_running_sessions.specs.Entries.{AddsFilled, AddsNoRegistrations, ChangesAt, ChangesUnits, Entries, HoldsUnits, IsMade, MakesAt, MakesUnits, StaysFilled, UnitsByRegistration, is_empty_slot, is_same_unit, taken_back, unit_at}
+use Rattle.cmi5_running_sessions.specs.Maps.{AddsFilled, AddsNoRegistrations, ChangesAt, ChangesUnits, TextMap, HoldsUnits, IsMade, MakesAt, MakesUnits, StaysFilled, UnitsByRegistration, is_empty_slot, is_same_unit, taken_back, unit_at}
 use Rattle.cmi5_running_sessions.specs.Kept.{is_same, nothing_reached, units_of}
 use Rattle.cmi5_running_sessions.specs.declared.units.Reached.{Reached}
 
@@ -31,29 +31,29 @@ pub unit_itself : (registration activity : List ℕ) → is_same_unit registrati
 unit_itself registration activity = ap (λ b. b && is_same activity activity) (same_key registration registration refl) ∙ same_key activity activity refl
 
 -- the entries that are found, or none
-abbrev pub listed : {X : Type 0} → Option (Entries X) → Entries X
+abbrev pub listed : {X : Type 0} → Option (TextMap X) → TextMap X
 listed o = option_map_or (λ es. es) o []
 
 -- where something is found, there is something
-pub some_there : {X : Type 0} (test : List ℕ → Bool) (es : Entries X) → is_some (lookup test es) ≡ true → 0 < length es
+pub some_there : {X : Type 0} (test : List ℕ → Bool) (es : TextMap X) → is_some (lookup test es) ≡ true → 0 < length es
 some_there test [] found = absurd (false≢true found)
 some_there test (e ∷ es) found = omega arith
 
 -- where there is something, its first key is found
-pub first_there : {X : Type 0} (es : Entries X) → 0 < length es → (a : List ℕ) × (is_some (lookup (is_same a) es) ≡ true)
+pub first_there : {X : Type 0} (es : TextMap X) → 0 < length es → (a : List ℕ) × (is_some (lookup (is_same a) es) ≡ true)
 first_there {X = X} [] some = absurd (false≢true (lt-ltb 0 0 some))
 first_there {X = X} (e ∷ es) some = (e.0, ap (λ b. is_some (cond b (Some e.1) (lookup (is_same e.0) es))) (same_key e.0 e.0 refl))
 
 -- ---- one key
 
-pub made_same : {X : Type 0} (nothing : X) (passes : List ℕ → Bool) (old new : Entries X) → new ≡ old → MakesAt nothing passes old new
+pub made_same : {X : Type 0} (nothing : X) (passes : List ℕ → Bool) (old new : TextMap X) → new ≡ old → MakesAt nothing passes old new
 made_same nothing passes old new is = λ k. inl (ap (λ es. lookup (is_same k) es) is)
 
 -- a slot is made for a key that had none
-pub made_new : {X : Type 0} (nothing : X) (key copy : List ℕ) (inside seen new : Entries X) → copy ≡ key → inside ≡ seen → is_some (lookup (is_same key) inside) ≡ false
+pub made_new : {X : Type 0} (nothing : X) (key copy : List ℕ) (inside seen new : TextMap X) → copy ≡ key → inside ≡ seen → is_some (lookup (is_same key) inside) ≡ false
     → ((k : List ℕ) → lookup (is_same k) new ≡ cond (is_same copy k) (Some nothing) (lookup (is_same k) inside)) → MakesAt nothing (λ k. is_same key k) seen new
 made_new {X} nothing key copy inside seen new is same none at =
-    subst (λ (es : Entries X). MakesAt nothing (λ k. is_same key k) es new) same
+    subst (λ (es : TextMap X). MakesAt nothing (λ k. is_same key k) es new) same
     (λ k. by_test k (is_same key k) refl (at k ∙ ap (λ (q : List ℕ). cond (is_same q k) (Some nothing) (lookup (is_same k) inside)) is))
   where
     fills : (o : Option X) → is_some o ≡ false → Some nothing ≡ option_or o (Some nothing)
@@ -70,21 +70,21 @@ made_new {X} nothing key copy inside seen new is same none at =
     by_test k false e is = inl (is ∙ ap (λ b. cond b (Some nothing) (lookup (is_same k) inside)) e)
 
 -- what was put under a key is found there
-pub put_there : {X : Type 0} (key copy : List ℕ) (x : X) (old new : Entries X) → copy ≡ key
+pub put_there : {X : Type 0} (key copy : List ℕ) (x : X) (old new : TextMap X) → copy ≡ key
     → ((k : List ℕ) → lookup (is_same k) new ≡ cond (is_same copy k) (Some x) (lookup (is_same k) old)) → is_some (lookup (is_same key) new) ≡ true
 put_there key copy x old new is at = ap is_some (at key ∙ ap (λ b. cond b (Some x) (lookup (is_same key) old)) (same_key copy key is))
 
 -- something else stands under the key now, or nothing
-pub changed_at : {X : Type 0} (key : List ℕ) (change : Option X → Option X) (w : Option X) (inside seen new : Entries X) → inside ≡ seen
+pub changed_at : {X : Type 0} (key : List ℕ) (change : Option X → Option X) (w : Option X) (inside seen new : TextMap X) → inside ≡ seen
     → ((k : List ℕ) → lookup (is_same k) new ≡ cond (is_same key k) w (lookup (is_same k) inside)) → w ≡ change (lookup (is_same key) inside) → ChangesAt (λ k. is_same key k) change seen new
-changed_at {X} key change w inside seen new same at is = subst (λ (es : Entries X). ChangesAt (λ k. is_same key k) change es new) same (λ k. at k ∙ by_test k (is_same key k) refl)
+changed_at {X} key change w inside seen new same at is = subst (λ (es : TextMap X). ChangesAt (λ k. is_same key k) change es new) same (λ k. at k ∙ by_test k (is_same key k) refl)
   where
     by_test : (k : List ℕ) (b : Bool) → is_same key k ≡ b → cond b w (lookup (is_same k) inside) ≡ (if b then change (lookup (is_same k) inside) else lookup (is_same k) inside)
     by_test k true e = is ∙ ap (λ (q : List ℕ). change (lookup (is_same q) inside)) (one_key key k e)
     by_test k false e = refl
 
 -- nothing changes where the change would leave what stands there
-pub unchanged_at : {X : Type 0} (key : List ℕ) (change : Option X → Option X) (es : Entries X) → change (lookup (is_same key) es) ≡ lookup (is_same key) es → ChangesAt (λ k. is_same key k) change es es
+pub unchanged_at : {X : Type 0} (key : List ℕ) (change : Option X → Option X) (es : TextMap X) → change (lookup (is_same key) es) ≡ lookup (is_same key) es → ChangesAt (λ k. is_same key k) change es es
 unchanged_at key change es is = λ k. by_test k (is_same key k) refl
   where
     by_test : (k : List ℕ) (b : Bool) → is_same key k ≡ b → lookup (is_same k) es ≡ (if b then change (lookup (is_same k) es) else lookup (is_same k) es)
@@ -107,7 +107,7 @@ empty_there is_nothing None empty = absurd (false≢true empty)
 empty_there is_nothing (Some x) empty = refl
 
 -- the only entry is taken out
-pub only_one : {X : Type 0} (key : List ℕ) (es : Entries X) → nat_lt 1 (length es) ≡ false → is_some (lookup (is_same key) es) ≡ true → ChangesAt (λ k. is_same key k) (λ (slot : Option X). None) es []
+pub only_one : {X : Type 0} (key : List ℕ) (es : TextMap X) → nat_lt 1 (length es) ≡ false → is_some (lookup (is_same key) es) ≡ true → ChangesAt (λ k. is_same key k) (λ (slot : Option X). None) es []
 only_one key [] few there = absurd (false≢true there)
 only_one {X} key (e ∷ []) few there = λ k. by_test k (is_same key k) refl
   where
@@ -126,13 +126,13 @@ only_one key (e ∷ f ∷ es) few there = absurd (false≢true (sym few ∙ lt-l
 
 -- ---- keys that pass alike
 
-pub made_alike : {X : Type 0} (nothing : X) (p q : List ℕ → Bool) (old new : Entries X) → ((k : List ℕ) → p k ≡ q k) → MakesAt nothing p old new → MakesAt nothing q old new
+pub made_alike : {X : Type 0} (nothing : X) (p q : List ℕ → Bool) (old new : TextMap X) → ((k : List ℕ) → p k ≡ q k) → MakesAt nothing p old new → MakesAt nothing q old new
 made_alike nothing p q old new alike made = λ k. subst (λ b. IsMade nothing b (lookup (is_same k) old) (lookup (is_same k) new)) (alike k) (made k)
 
-pub changed_alike : {X : Type 0} (p q : List ℕ → Bool) (change : Option X → Option X) (old new : Entries X) → ((k : List ℕ) → p k ≡ q k) → ChangesAt p change old new → ChangesAt q change old new
+pub changed_alike : {X : Type 0} (p q : List ℕ → Bool) (change : Option X → Option X) (old new : TextMap X) → ((k : List ℕ) → p k ≡ q k) → ChangesAt p change old new → ChangesAt q change old new
 changed_alike p q change old new alike changed = λ k. changed k ∙ ap (λ b. if b then change (lookup (is_same k) old) else lookup (is_same k) old) (alike k)
 
-pub unchanged : {X : Type 0} (p : List ℕ → Bool) (change : Option X → Option X) (es : Entries X) → ((k : List ℕ) → p k ≡ false) → ChangesAt p change es es
+pub unchanged : {X : Type 0} (p : List ℕ → Bool) (change : Option X → Option X) (es : TextMap X) → ((k : List ℕ) → p k ≡ false) → ChangesAt p change es es
 unchanged p change es none = λ k. sym (ap (λ b. if b then change (lookup (is_same k) es) else lookup (is_same k) es) (none k))
 
 pub units_made_alike : (p q : List ℕ → List ℕ → Bool) (old new : UnitsByRegistration) → ((r a : List ℕ) → p r a ≡ q r a) → MakesUnits p old new → MakesUnits q old new
@@ -151,7 +151,7 @@ units_unchanged p change es none = λ r a. sym (ap (λ b. if b then change (unit
 pub unit_kept : (r a : List ℕ) (es : UnitsByRegistration) → is_some (unit_at r a es) ≡ true → is_some (lookup (is_same r) es) ≡ true
 unit_kept r a es there = by_found (lookup (is_same r) es) there
   where
-    by_found : (o : Option (Entries Reached)) → is_some (lookup (is_same a) (listed o)) ≡ true → is_some o ≡ true
+    by_found : (o : Option (TextMap Reached)) → is_some (lookup (is_same a) (listed o)) ≡ true → is_some o ≡ true
     by_found None there = there
     by_found (Some us) there = refl
 
@@ -160,16 +160,16 @@ same_units : (registration r : List ℕ) (es : UnitsByRegistration) → is_same 
 same_units registration r es same = ap (λ (q : List ℕ). units_of q es) (one_key registration r same)
 
 -- the units of a registration become others, or none
-module _ (registration activity : List ℕ) (us vs : Entries Reached) (w : Option (Entries Reached)) (inside seen new : UnitsByRegistration) (same : inside ≡ seen) (were : us ≡ units_of registration inside) (are : listed w ≡ vs)
+module _ (registration activity : List ℕ) (us vs : TextMap Reached) (w : Option (TextMap Reached)) (inside seen new : UnitsByRegistration) (same : inside ≡ seen) (were : us ≡ units_of registration inside) (are : listed w ≡ vs)
     (at : (k : List ℕ) → lookup (is_same k) new ≡ cond (is_same registration k) w (lookup (is_same k) inside)) where
   pub here : (r a : List ℕ) → is_same registration r ≡ true → unit_at r a new ≡ lookup (is_same a) vs
-  here r a e = ap (λ (o : Option (Entries Reached)). lookup (is_same a) (listed o)) (at r ∙ ap (λ b. cond b w (lookup (is_same r) inside)) e) ∙ ap (λ (es : Entries Reached). lookup (is_same a) es) are
+  here r a e = ap (λ (o : Option (TextMap Reached)). lookup (is_same a) (listed o)) (at r ∙ ap (λ b. cond b w (lookup (is_same r) inside)) e) ∙ ap (λ (es : TextMap Reached). lookup (is_same a) es) are
 
   before : (r a : List ℕ) → is_same registration r ≡ true → lookup (is_same a) us ≡ unit_at r a inside
-  before r a e = ap (λ (es : Entries Reached). lookup (is_same a) es) (were ∙ same_units registration r inside e)
+  before r a e = ap (λ (es : TextMap Reached). lookup (is_same a) es) (were ∙ same_units registration r inside e)
 
   elsewhere : (r a : List ℕ) → is_same registration r ≡ false → unit_at r a new ≡ unit_at r a inside
-  elsewhere r a e = ap (λ (o : Option (Entries Reached)). lookup (is_same a) (listed o)) (at r ∙ ap (λ b. cond b w (lookup (is_same r) inside)) e)
+  elsewhere r a e = ap (λ (o : Option (TextMap Reached)). lookup (is_same a) (listed o)) (at r ∙ ap (λ b. cond b w (lookup (is_same r) inside)) e)
 
   pub unit_changed : (change : Option Reached → Option Reached) → ChangesAt (λ k. is_same activity k) change us vs → ChangesUnits (is_same_unit registration activity) change seen new
   unit_changed change changes = subst (λ (es : UnitsByRegistration). ChangesUnits (is_same_unit registration activity) change es new) same (λ r a. by_test r a (is_same registration r) refl)

@@ -1,44 +1,45 @@
 -- What is counted of a unit, as of one statement more, and as of one that is voided.
-use Rattle.std.proofs.Common.{◌≡◌, ℕ, ◌+◌, ◌-◌, ◌<◌, ◌≤◌, ◌^◌, nat_lt, Bool, true, false, not, cond, if◌then◌else◌, ◌&&◌, ◌||◌, List, [], ◌∷◌, ◌++◌, length, Option, Some, None, is_some, refl, sym, ap, subst, ◌∙◌, arith, lt-ltb}
+use Rattle.std.proofs.Common.{◌≡◌, ℕ, ◌+◌, ◌-◌, ◌<◌, ◌^◌, nat_lt, Bool, true, false, cond, if◌then◌else◌, ◌&&◌, ◌||◌, List, [], ◌∷◌, ◌++◌, length, Option, Some, None, is_some, refl, sym, ap, subst, ◌∙◌, arith, lt-ltb}
 use Rattle.std.specs.Prelude.{option_map}
 use Rattle.std.specs.List.{count_by, list_any}
 use Rattle.std.specs.Str.{bytes_eq}
 use Rattle.std.specs.Option.{option_map_or}
-use Rattle.std.proofs.Math.Nat.{min-eq_left}
+use Rattle.std.proofs.Math.Bool.{and-false, and-true}
 use Rattle.std.proofs.lemmas.Bool.{false≢true}
-use Rattle.std.proofs.lemmas.List.Sums.{count_by-le-length, sum_by-append, sum_by-cons, sum_by_push}
+use Rattle.std.proofs.lemmas.List.Sums.{sum_by-cons}
 use Rattle.cmi5_course.specs.declared.launch.Launch.{Launch}
 use Rattle.cmi5_session.specs.Cmi5LaunchNames.{completed, passed}
-use Rattle.cmi5_running_sessions.specs.Entries.{ChangesUnits, UnitsByRegistration, is_empty_slot, is_nothing_reached, is_same_unit, kept_in, one_less, one_more, reached_behind, reached_without, taken_back, unit_at}
-use Rattle.cmi5_running_sessions.specs.Kept.{SeenSessions, counts_still_for, is_same, nothing_reached, reached_in, reached_of, says_of}
+use Rattle.cmi5_running_sessions.specs.Maps.{ChangesUnits, UnitsByRegistration, is_empty_slot, is_nothing_reached, is_same_unit, kept_in, reached_behind, reached_without, taken_back, unit_at}
+use Rattle.cmi5_running_sessions.specs.Kept.{SeenSessions, counts_still_for, is_same, nothing_reached, reached_in, reached_of}
 use Rattle.cmi5_running_sessions.specs.Room.{needs_unit}
 use Rattle.cmi5_running_sessions.specs.declared.told.UnitTold.{UnitTold}
 use Rattle.cmi5_running_sessions.specs.declared.units.Reached.{Reached}
 use Rattle.cmi5_running_sessions.proofs.Altering.{emptied, one_key, unit_by_bytes}
+use Rattle.cmi5_running_sessions.proofs.Making.{counts_of}
+use Rattle.cmi5_session.proofs.Counts.{count_less, count_none, count_one, count_same}
+use Rattle.cmi5_session.specs.Counting.{counts, one_less}
 use Rattle.cmi5_session.specs.Marked.{MarkedStatement, mark, marked, marked_by}
-use Rattle.cmi5_session.specs.Own.{is_cmi5_defined, says}
+use Rattle.cmi5_session.specs.Own.{says}
 use Rattle.cmi5_session.specs.Views.{counts_still, has_counting}
 use Rattle.lrs_json.specs.Json.{Json}
 use Rattle.lrs_json.specs.View.{view}
 use Rattle.cmi5_session.specs.XapiStatementStatements.{is_that_id, is_voided}
-use Rattle.cmi5_session.specs.XapiStatementStatement.{activity_of, registration_of, verb_of}
+use Rattle.cmi5_session.specs.XapiStatementStatement.{activity_of, registration_of}
 use Rattle.cmi5_session.specs.XapiStatementStored.{StoredStatement}
 
 -- ---- truth values
 
 -- the unit is that one, and the statement says so
-four : (v x y d : Bool) → (v && x && y && d) ≡ ((x && y) && (v && d))
-four true true true d = refl
-four true true false d = refl
-four true false true d = refl
-four true false false d = refl
-four false true true d = refl
-four false true false d = refl
-four false false true d = refl
-four false false false d = refl
+unit_first : (s x y : Bool) → ((s && x) && y) ≡ ((x && y) && s)
+unit_first true true true = refl
+unit_first true true false = refl
+unit_first true false y = refl
+unit_first false true true = refl
+unit_first false true false = refl
+unit_first false false y = refl
 
-of_unit : (r a verb : List ℕ) (j : Json) → says_of r a verb j ≡ ((is_that_id r (registration_of j) && is_that_id a (activity_of j)) && says verb j)
-of_unit r a verb j = four (bytes_eq (verb_of j) verb) (is_that_id r (registration_of j)) (is_that_id a (activity_of j)) (is_cmi5_defined j)
+of_unit : (r a verb : List ℕ) (j : Json) → counts r a verb j ≡ ((is_that_id r (registration_of j) && is_that_id a (activity_of j)) && says verb j)
+of_unit r a verb j = unit_first (says verb j) (is_that_id r (registration_of j)) (is_that_id a (activity_of j))
 
 -- where a slot is needed, each verb is told of that unit; where none is, neither is
 needed_first : (x y c p : Bool) → (x && y && (c || p)) ≡ true → ((x && y) && c) ≡ c
@@ -68,29 +69,21 @@ other_second false false c p is = refl
 
 module _ (r a : List ℕ) (s : StoredStatement) where
   -- what is said of the unit, as the slot that it needs tells it
-  told_completed : needs_unit r a s ≡ true → says_of r a completed (view s.received) ≡ says completed (view s.received)
+  told_completed : needs_unit r a s ≡ true → counts r a completed (view s.received) ≡ says completed (view s.received)
   told_completed is = of_unit r a completed (view s.received)
       ∙ needed_first (is_that_id r (registration_of (view s.received))) (is_that_id a (activity_of (view s.received))) (says completed (view s.received)) (says passed (view s.received)) is
 
-  told_passed : needs_unit r a s ≡ true → says_of r a passed (view s.received) ≡ says passed (view s.received)
+  told_passed : needs_unit r a s ≡ true → counts r a passed (view s.received) ≡ says passed (view s.received)
   told_passed is = of_unit r a passed (view s.received)
       ∙ needed_second (is_that_id r (registration_of (view s.received))) (is_that_id a (activity_of (view s.received))) (says completed (view s.received)) (says passed (view s.received)) is
 
-  other_completed : needs_unit r a s ≡ false → says_of r a completed (view s.received) ≡ false
+  other_completed : needs_unit r a s ≡ false → counts r a completed (view s.received) ≡ false
   other_completed off = of_unit r a completed (view s.received)
       ∙ other_first (is_that_id r (registration_of (view s.received))) (is_that_id a (activity_of (view s.received))) (says completed (view s.received)) (says passed (view s.received)) off
 
-  other_passed : needs_unit r a s ≡ false → says_of r a passed (view s.received) ≡ false
+  other_passed : needs_unit r a s ≡ false → counts r a passed (view s.received) ≡ false
   other_passed off = of_unit r a passed (view s.received)
       ∙ other_second (is_that_id r (registration_of (view s.received))) (is_that_id a (activity_of (view s.received))) (says completed (view s.received)) (says passed (view s.received)) off
-
-and_true : (b : Bool) → (b && not false) ≡ b
-and_true true = refl
-and_true false = refl
-
-and_false : (b : Bool) → (b && not true) ≡ false
-and_false true = refl
-and_false false = refl
 
 -- ---- which unit is told
 
@@ -161,51 +154,8 @@ none_filled change (Some r) off = absurd (false≢true (sym off))
 
 -- ---- counts
 
-abbrev counts_of : ℕ → ℕ → Reached
-counts_of n m = record { completed = n; passed = m }
-
 pub same_counts : (n m k l : ℕ) → n ≡ m → k ≡ l → counts_of n k ≡ counts_of m l
 same_counts n m k l is at = ap (λ x. counts_of x k) is ∙ ap (λ x. counts_of m x) at
-
-count_more : (p : MarkedStatement → Bool) (those : List MarkedStatement) (m : MarkedStatement) → count_by p (those ++ m ∷ []) ≡ count_by p those + cond (p m) 1 0
-count_more p those m = sum_by_push (λ x. cond (p x) 1 0) those m
-
-none_added : (n : ℕ) → n + 0 ≡ n
-none_added n = omega arith
-
--- one that doesn't count
-count_none : (p : MarkedStatement → Bool) (those : List MarkedStatement) (m : MarkedStatement) → p m ≡ false → count_by p (those ++ m ∷ []) ≡ count_by p those
-count_none p those m off = count_more p those m ∙ (ap (λ b. count_by p those + cond b 1 0) off ∙ none_added (count_by p those))
-
-one_counted : (b : Bool) (n : ℕ) → n + 1 < 2 ^ 64 → one_more b n ≡ n + cond b 1 0
-one_counted true n small =
-    let fits : n + 1 ≤ 2 ^ 64 - 1 = omega arith in
-    min-eq_left fits
-one_counted false n small = sym (none_added n)
-
--- one that counts by a test
-count_one : (p : MarkedStatement → Bool) (those : List MarkedStatement) (m : MarkedStatement) (b : Bool) → p m ≡ b → length those + 1 < 2 ^ 64 → one_more b (count_by p those) ≡ count_by p (those ++ m ∷ [])
-count_one p those m b is small =
-    let few = count_by-le-length p those in
-    let room : count_by p those + 1 < 2 ^ 64 = omega arith in
-    one_counted b (count_by p those) room ∙ sym (count_more p those m ∙ ap (λ t. count_by p those + cond t 1 0) is)
-
-count_split : (p : MarkedStatement → Bool) (before behind : List MarkedStatement) (m : MarkedStatement) → count_by p (before ++ m ∷ behind) ≡ count_by p before + (cond (p m) 1 0 + count_by p behind)
-count_split p before behind m = sum_by-append (λ x. cond (p x) 1 0) before (m ∷ behind) ∙ ap (λ n. count_by p before + n) (sum_by-cons (λ x. cond (p x) 1 0) m behind)
-
-less_one : (b : Bool) (n k : ℕ) → one_less b (n + (cond b 1 0 + k)) ≡ n + (0 + k)
-less_one true n k = omega arith
-less_one false n k = refl
-
--- one that counted by a test doesn't count any more
-count_less : (p : MarkedStatement → Bool) (before behind : List MarkedStatement) (m l : MarkedStatement) (b : Bool) → p m ≡ b → p l ≡ false → one_less b (count_by p (before ++ m ∷ behind)) ≡ count_by p (before ++ l ∷ behind)
-count_less p before behind m l b is off =
-    ap (λ n. one_less b n) (count_split p before behind m ∙ ap (λ t. count_by p before + (cond t 1 0 + count_by p behind)) is)
-    ∙ (less_one b (count_by p before) (count_by p behind) ∙ sym (count_split p before behind l ∙ ap (λ t. count_by p before + (cond t 1 0 + count_by p behind)) off))
-
--- one mark for another, and neither counts
-count_same : (p : MarkedStatement → Bool) (before behind : List MarkedStatement) (m l : MarkedStatement) → p m ≡ false → p l ≡ false → count_by p (before ++ m ∷ behind) ≡ count_by p (before ++ l ∷ behind)
-count_same p before behind m l is off = count_less p before behind m l false is off
 
 -- ---- what was reached
 
@@ -213,7 +163,7 @@ kept_counted : (change : Reached → Reached) (o : Option Reached) → is_some o
 kept_counted change None there = absurd (false≢true there)
 kept_counted change (Some r) there = refl
 
-none_less : (b c : Bool) → nothing_reached ≡ counts_of (one_less b 0) (one_less c 0)
+none_less : (b c : Bool) → nothing_reached ≡ counts_of (one_less 0 b) (one_less 0 c)
 none_less true true = refl
 none_less true false = refl
 none_less false true = refl
@@ -231,8 +181,8 @@ voided_more s old new same those stands r a =
     ap (λ (reached : UnitsByRegistration). kept_in nothing_reached (unit_at r a reached)) same
     ∙ (stands r a
     ∙ sym (same_counts _ _ _ _
-    (count_none (counts_still_for r a completed) those (mark s true) (and_false (says_of r a completed (view s.received))))
-    (count_none (counts_still_for r a passed) those (mark s true) (and_false (says_of r a passed (view s.received))))))
+    (count_none (counts_still_for r a completed) those (mark s true) (and-false (counts r a completed (view s.received))))
+    (count_none (counts_still_for r a passed) those (mark s true) (and-false (counts r a passed (view s.received))))))
 
 -- one that isn't voided counts
 pub counted_more : (s : StoredStatement) (old new : SeenSessions) → ChangesUnits (λ r a. needs_unit r a s) (option_map (reached_behind (view s.received))) old.reached new.reached
@@ -248,14 +198,14 @@ counted_more s old new changed there those small stands r a = by_test (needs_uni
         ∙ (kept_counted (reached_behind (view s.received)) (unit_at r a old.reached) (there r a needed)
         ∙ (ap (λ (c : Reached). reached_behind (view s.received) c) (stands r a)
         ∙ same_counts _ _ _ _
-        (count_one (counts_still_for r a completed) those (mark s false) (says completed (view s.received)) (and_true (says_of r a completed (view s.received)) ∙ told_completed r a s needed) small)
-        (count_one (counts_still_for r a passed) those (mark s false) (says passed (view s.received)) (and_true (says_of r a passed (view s.received)) ∙ told_passed r a s needed) small)))
+        (count_one (counts_still_for r a completed) those (mark s false) (says completed (view s.received)) (and-true (counts r a completed (view s.received)) ∙ told_completed r a s needed) small)
+        (count_one (counts_still_for r a passed) those (mark s false) (says passed (view s.received)) (and-true (counts r a passed (view s.received)) ∙ told_passed r a s needed) small)))
     by_test false other is =
         ap (λ (o : Option Reached). kept_in nothing_reached o) (is ∙ ap (λ b. if b then option_map (reached_behind (view s.received)) (unit_at r a old.reached) else unit_at r a old.reached) other)
         ∙ (stands r a
         ∙ sym (same_counts _ _ _ _
-        (count_none (counts_still_for r a completed) those (mark s false) (and_true (says_of r a completed (view s.received)) ∙ other_completed r a s other))
-        (count_none (counts_still_for r a passed) those (mark s false) (and_true (says_of r a passed (view s.received)) ∙ other_passed r a s other))))
+        (count_none (counts_still_for r a completed) those (mark s false) (and-true (counts r a completed (view s.received)) ∙ other_completed r a s other))
+        (count_none (counts_still_for r a passed) those (mark s false) (and-true (counts r a passed (view s.received)) ∙ other_passed r a s other))))
 
 -- one that is voided now counts no longer
 pub voided_now : (s : StoredStatement) (old new : SeenSessions) → ChangesUnits (λ r a. needs_unit r a s) (option_map (reached_without (view s.received))) old.reached new.reached
@@ -272,17 +222,17 @@ voided_now s old new changed before behind stands r a = by_test (needs_unit r a 
         ∙ (ap (λ (c : Reached). reached_without (view s.received) c) (stands r a)
         ∙ same_counts _ _ _ _
         (count_less (counts_still_for r a completed) before behind (mark s false) (mark s true) (says completed (view s.received))
-        (and_true (says_of r a completed (view s.received)) ∙ told_completed r a s needed) (and_false (says_of r a completed (view s.received))))
+        (and-true (counts r a completed (view s.received)) ∙ told_completed r a s needed) (and-false (counts r a completed (view s.received))))
         (count_less (counts_still_for r a passed) before behind (mark s false) (mark s true) (says passed (view s.received))
-        (and_true (says_of r a passed (view s.received)) ∙ told_passed r a s needed) (and_false (says_of r a passed (view s.received))))))
+        (and-true (counts r a passed (view s.received)) ∙ told_passed r a s needed) (and-false (counts r a passed (view s.received))))))
     by_test false other is =
         ap (λ (o : Option Reached). kept_in nothing_reached o) (is ∙ ap (λ b. if b then option_map (reached_without (view s.received)) (unit_at r a old.reached) else unit_at r a old.reached) other)
         ∙ (stands r a
         ∙ same_counts _ _ _ _
         (count_same (counts_still_for r a completed) before behind (mark s false) (mark s true)
-        (and_true (says_of r a completed (view s.received)) ∙ other_completed r a s other) (and_false (says_of r a completed (view s.received))))
+        (and-true (counts r a completed (view s.received)) ∙ other_completed r a s other) (and-false (counts r a completed (view s.received))))
         (count_same (counts_still_for r a passed) before behind (mark s false) (mark s true)
-        (and_true (says_of r a passed (view s.received)) ∙ other_passed r a s other) (and_false (says_of r a passed (view s.received)))))
+        (and-true (counts r a passed (view s.received)) ∙ other_passed r a s other) (and-false (counts r a passed (view s.received)))))
 
 -- ---- whether any counts
 

@@ -7,11 +7,12 @@ use Rattle.std.specs.Option.{option_or}
 use Rattle.std.proofs.lemmas.Bool.{false≢true}
 use Rattle.std.proofs.lemmas.List.Folds.{find-append, list_any-append}
 use Rattle.cmi5_session.specs.Cmi5LaunchNames.{initialized, terminated}
-use Rattle.cmi5_running_sessions.specs.Entries.{ChangesAt, kept_in, own_behind}
+use Rattle.cmi5_running_sessions.specs.Maps.{ChangesAt, kept_in, own_behind}
 use Rattle.cmi5_running_sessions.specs.Kept.{SeenSessions, is_same, last_said, nothing_said, own_of, own_said}
 use Rattle.cmi5_running_sessions.specs.Room.{needs_own}
 use Rattle.cmi5_running_sessions.specs.declared.own.OwnSaid.{OwnSaid}
 use Rattle.cmi5_running_sessions.proofs.Altering.{by_bytes, one_key}
+use Rattle.cmi5_running_sessions.proofs.Making.{said_of}
 use Rattle.cmi5_session.specs.Marked.{MarkedStatement, mark, marked, marked_by, statements_of}
 use Rattle.cmi5_session.specs.Moments.{began_at, last_own}
 use Rattle.cmi5_session.specs.Own.{has_own, is_of_session, is_own, says}
@@ -19,6 +20,7 @@ use Rattle.lrs_json.specs.View.{view}
 use Rattle.xapi_format.specs.declared.authority.Authority.{Authority}
 use Rattle.cmi5_session.specs.XapiStatementStatements.{is_that_id}
 use Rattle.cmi5_session.specs.XapiStatementStored.{StoredStatement}
+use Rattle.cmi5_session.proofs.Behind.{one_item}
 
 -- ---- options
 
@@ -31,11 +33,6 @@ or_assoc None b c = refl
 or_assoc (Some x) b c = refl
 
 -- ---- one statement more
-
-one_item : (a b : Bool) → a || (b || false) ≡ a || b
-one_item true b = refl
-one_item false true = refl
-one_item false false = refl
 
 began_more : (id : List ℕ) (xs : List StoredStatement) (s : StoredStatement) → began_at id (xs ++ s ∷ []) ≡ option_or (began_at id xs) (if is_own id initialized s then Some s.stored else None)
 began_more id xs s =
@@ -57,9 +54,6 @@ last_more id (x ∷ xs) s =
     ∙ or_assoc (if is_of_session id s.authority then Some s.stored else None) (last_said id xs) (if is_of_session id x.authority then Some x.stored else None)
 
 -- ---- the whole
-
-abbrev said_of : Option ℕ → Bool → Option ℕ → OwnSaid
-said_of began ended last = record { began = began; ended = ended; last = last }
 
 pub same_parts : (a b : Option ℕ) (c d : Bool) (e f : Option ℕ) → a ≡ b → c ≡ d → e ≡ f → said_of a c e ≡ said_of b d f
 same_parts a b c d e f began ended last = ap (λ x. said_of x c e) began ∙ (ap (λ x. said_of b x e) ended ∙ ap (λ x. said_of b d x) last)
@@ -91,7 +85,7 @@ statements-marked : (before behind : List MarkedStatement) (s : StoredStatement)
 statements-marked [] behind s = refl
 statements-marked (m ∷ before) behind s = ap (λ (xs : List StoredStatement). m.statement ∷ xs) (statements-marked before behind s)
 
-marked_back : (those xs : List StoredStatement) → statements_of (marked_by those xs) ≡ xs
+pub marked_back : (those xs : List StoredStatement) → statements_of (marked_by those xs) ≡ xs
 marked_back those [] = refl
 marked_back those (x ∷ xs) = ap (λ (ys : List StoredStatement). x ∷ ys) (marked_back those xs)
 

@@ -6,7 +6,7 @@ use Rattle.std.specs.Map.{lookup}
 use Rattle.std.proofs.lemmas.Bool.{and_parts, false≢true}
 use Rattle.std.proofs.lemmas.List.{take_all, take_more}
 use Rattle.std.proofs.lemmas.List.Folds.{list_any-append, list_any_at}
-use Rattle.cmi5_running_sessions.specs.Entries.{AddsFilled, AddsNoRegistrations, ChangesAt, ChangesUnits, Entries, IsMade, MakesAt, MakesUnits, StaysFilled, UnitsByRegistration, is_nothing_reached, is_nothing_said, kept_in, taken_back, unit_at}
+use Rattle.cmi5_running_sessions.specs.Maps.{AddsFilled, AddsNoRegistrations, ChangesAt, ChangesUnits, TextMap, IsMade, MakesAt, MakesUnits, StaysFilled, UnitsByRegistration, is_nothing_reached, is_nothing_said, kept_in, taken_back, unit_at}
 use Rattle.cmi5_running_sessions.specs.Kept.{SeenSessions, is_same, nothing_reached, nothing_said, own_of, reached_of}
 use Rattle.cmi5_running_sessions.specs.Room.{AddsNoSlots, HasOwnSlot, HasSlotsFor, HasSlotsForEach, HasUnitSlot, HasUnitsSlot, IsFilled, KeepsSlots, KeepsSame, MakesSlots, TakesSlotsBack, needs_own, needs_unit}
 use Rattle.cmi5_running_sessions.specs.declared.own.OwnSaid.{OwnSaid}
@@ -78,7 +78,7 @@ filled_stays {X = X} change false (Some x) new is there = ap (λ (o : Option X).
 
 -- ---- nothing is kept
 
-abbrev said_of : Option ℕ → Bool → Option ℕ → OwnSaid
+abbrev pub said_of : Option ℕ → Bool → Option ℕ → OwnSaid
 said_of began ended last = record { began = began; ended = ended; last = last }
 
 said_nothing : (said : OwnSaid) → is_nothing_said said ≡ true → said ≡ nothing_said
@@ -90,7 +90,7 @@ said_nothing said is = by_parts said.began said.ended said.last is
     by_parts None true last is = absurd (false≢true is)
     by_parts (Some b) ended last is = absurd (false≢true is)
 
-abbrev counts_of : ℕ → ℕ → Reached
+abbrev pub counts_of : ℕ → ℕ → Reached
 counts_of n m = record { completed = n; passed = m }
 
 reached_nothing : (r : Reached) → is_nothing_reached r ≡ true → r ≡ nothing_reached
@@ -183,14 +183,14 @@ filled_kept p q f g old new own units = record {
   unit = λ r a there. filled_stays g (q r a) (unit_at r a old.reached) (unit_at r a new.reached) (units r a) there;
 }
 
-pub own_kept : (p : List ℕ → Bool) (f : OwnSaid → OwnSaid) (own new : Entries OwnSaid) (reached : UnitsByRegistration) → ChangesAt p (option_map f) own new
+pub own_kept : (p : List ℕ → Bool) (f : OwnSaid → OwnSaid) (own new : TextMap OwnSaid) (reached : UnitsByRegistration) → ChangesAt p (option_map f) own new
     → KeepsSlots (record { own = own; reached = reached }) (record { own = new; reached = reached })
 own_kept p f own new reached changed = record {
   own = λ id there. filled_stays f (p id) (lookup (is_same id) own) (lookup (is_same id) new) (changed id) there;
   unit = λ r a there. there;
 }
 
-pub units_kept : (q : List ℕ → List ℕ → Bool) (g : Reached → Reached) (own : Entries OwnSaid) (reached new : UnitsByRegistration) → ChangesUnits q (option_map g) reached new
+pub units_kept : (q : List ℕ → List ℕ → Bool) (g : Reached → Reached) (own : TextMap OwnSaid) (reached new : UnitsByRegistration) → ChangesUnits q (option_map g) reached new
     → KeepsSlots (record { own = own; reached = reached }) (record { own = own; reached = new })
 units_kept q g own reached new changed = record {
   own = λ id there. there;

@@ -2,7 +2,7 @@
 use Rattle.std.proofs.Common.{◌≡◌, ℕ, nat_lt, Bool, if◌then◌else◌, List, ap, ◌∙◌}
 use Rattle.cmi5_course.specs.declared.launch.Launch.{Launch}
 use Rattle.cmi5_session.specs.Cmi5LaunchNames.{completed, passed, terminated}
-use Rattle.cmi5_running_sessions.specs.Entries.{phase_by}
+use Rattle.cmi5_running_sessions.specs.Maps.{phase_by}
 use Rattle.cmi5_running_sessions.specs.Kept.{SeenSessions, SaidStandsFor, own_of, own_said, reached_of}
 use Rattle.cmi5_running_sessions.specs.declared.own.OwnSaid.{OwnSaid}
 use Rattle.cmi5_running_sessions.specs.declared.units.Reached.{Reached}
@@ -11,22 +11,17 @@ use Rattle.cmi5_running_sessions.proofs.Hearing.{began_is, statements-of-marked}
 use Rattle.cmi5_session.specs.Marked.{marked}
 use Rattle.cmi5_session.specs.Own.{has_own}
 use Rattle.cmi5_session.specs.Phases.{phase_of}
-use Rattle.cmi5_session.specs.Views.{SeenSession, view_of}
+use Rattle.cmi5_session.specs.Views.{view_of}
 use Rattle.cmi5_session.specs.declared.phase.Phase.{Phase}
 use Rattle.cmi5_session.specs.declared.phase.Phase.TheVariants as phase
 use Rattle.cmi5_session.specs.XapiStatementStored.{StoredStatement}
+use Rattle.cmi5_session.proofs.Behind.{made, same_parts}
 
 -- the phase by what the session's own statements said
 phase_told : (id : List ℕ) (fetched abandoned : Bool) (statements : List StoredStatement) → phase_by (own_said id statements) fetched abandoned ≡ phase_of id fetched abandoned statements
 phase_told id fetched abandoned statements =
     ap (λ b. if abandoned then phase.Abandoned else (if has_own id terminated statements then phase.Terminated else (if b then phase.Initialized else (if fetched then phase.Fetched else phase.Launched))))
     (began_is id statements)
-
-abbrev made : Launch → Phase → Bool → Bool → SeenSession
-made launch phase completed passed = record { launch = launch; phase = phase; completed = completed; passed = passed }
-
-same_parts : (launch : Launch) (p q : Phase) (a b c d : Bool) → p ≡ q → a ≡ b → c ≡ d → made launch p a c ≡ made launch q b d
-same_parts launch p q a b c d phase is at = ap (λ x. made launch x a c) phase ∙ (ap (λ x. made launch q x c) is ∙ ap (λ x. made launch q b x) at)
 
 -- the view, by what stands for the statements
 pub viewed : (launch : Launch) (fetched abandoned : Bool) (s : SeenSessions) (statements : List StoredStatement) → SaidStandsFor s (marked statements) → (own : OwnSaid) (reached : Reached)

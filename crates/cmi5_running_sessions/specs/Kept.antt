@@ -7,17 +7,14 @@ use Rattle.std.specs.List.{count_by}
 use Rattle.std.specs.Map.{lookup}
 use Rattle.std.specs.Option.{option_map_or, option_or}
 use Rattle.std.specs.Ordering.{nat_cmp}
-use Rattle.std.specs.Str.{bytes_eq}
 use Rattle.cmi5_session.specs.Cmi5LaunchNames.{completed, passed, terminated}
 use Rattle.cmi5_running_sessions.specs.declared.own.OwnSaid.{OwnSaid}
 use Rattle.cmi5_running_sessions.specs.declared.units.Reached.{Reached}
+use Rattle.cmi5_session.specs.Counting.{counts}
 use Rattle.cmi5_session.specs.Marked.{MarkedStatement, statements_of}
 use Rattle.cmi5_session.specs.Moments.{began_at}
-use Rattle.cmi5_session.specs.Own.{has_own, is_cmi5_defined, is_of_session}
-use Rattle.lrs_json.specs.Json.{Json}
+use Rattle.cmi5_session.specs.Own.{has_own, is_of_session}
 use Rattle.lrs_json.specs.View.{view}
-use Rattle.cmi5_session.specs.XapiStatementStatements.{is_that_id}
-use Rattle.cmi5_session.specs.XapiStatementStatement.{activity_of, registration_of, verb_of}
 use Rattle.cmi5_session.specs.XapiStatementStored.{StoredStatement}
 
 -- What is seen of it: what was said by session, and what was reached by registration and activity.
@@ -68,16 +65,10 @@ unit_of activity units = option_map_or (λ r. r) (lookup (is_same activity) unit
 abbrev pub reached_of : List ℕ → List ℕ → SeenSessions → Reached
 reached_of registration activity s = unit_of activity (units_of registration s.reached)
 
--- a statement of that verb that cmi5 defines, in that registration and on that activity, whosever it is
-abbrev pub says_of : List ℕ → List ℕ → List ℕ → Json → Bool
-says_of registration activity verb j =
-    bytes_eq (verb_of j) verb && is_that_id registration (registration_of j)
-    && is_that_id activity (activity_of j) && is_cmi5_defined j
-
--- such a one that isn't voided
+-- it counts, and isn't voided
 abbrev pub counts_still_for : List ℕ → List ℕ → List ℕ → MarkedStatement → Bool
 counts_still_for registration activity verb m =
-    says_of registration activity verb (view m.statement.received) && not m.voided
+    counts registration activity verb (view m.statement.received) && not m.voided
 
 abbrev pub reached_in : List ℕ → List ℕ → List MarkedStatement → Reached
 reached_in registration activity those = record {

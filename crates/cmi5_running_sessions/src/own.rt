@@ -2,13 +2,13 @@
 ghost use Rattle.std.specs.Prelude.{◌≡◌, ◌||◌, Some, None, if◌then◌else◌};
 ghost use Rattle.std.specs.Option.{option_or};
 ghost use Rattle.cmi5_session.specs.Cmi5LaunchNames.{initialized, terminated};
-ghost use Rattle.cmi5_running_sessions.specs.Entries.{is_nothing_said, own_behind};
+ghost use Rattle.cmi5_running_sessions.specs.Maps.{is_nothing_said, own_behind};
 ghost use Rattle.cmi5_running_sessions.specs.Kept.{nothing_said};
 ghost use Rattle.cmi5_session.specs.Own.{says};
 ghost use Rattle.lrs_json.specs.View.{view};
 
-use crate::told::says;
 use cmi5_session::cmi5_launch::names::{INITIALIZED, TERMINATED};
+use cmi5_session::says;
 use cmi5_session::xapi_statement::StoredStatement;
 use lrs_time::Moment;
 

@@ -1,9 +1,9 @@
 // What was reached, by registration and activity.
 ghost use Rattle.std.specs.Prelude.{◌≡◌, [], ℕ, List, IsTrue, true, is_some, nat_lt, length, option_map, None, OnOk};
-ghost use Rattle.cmi5_running_sessions.specs.Entries.{is_empty_slot, is_nothing_reached, is_same_unit, kept_in};
-ghost use Rattle.cmi5_running_sessions.specs.Entries.{reached_behind, reached_without, taken_back, unit_at};
-ghost use Rattle.cmi5_running_sessions.specs.Entries.{AddsFilled, AddsNoRegistrations, ChangesUnits};
-ghost use Rattle.cmi5_running_sessions.specs.Entries.{MakesUnits, StaysFilled};
+ghost use Rattle.cmi5_running_sessions.specs.Maps.{is_empty_slot, is_nothing_reached, is_same_unit, kept_in};
+ghost use Rattle.cmi5_running_sessions.specs.Maps.{reached_behind, reached_without, taken_back, unit_at};
+ghost use Rattle.cmi5_running_sessions.specs.Maps.{AddsFilled, AddsNoRegistrations, ChangesUnits};
+ghost use Rattle.cmi5_running_sessions.specs.Maps.{MakesUnits, StaysFilled};
 ghost use Rattle.cmi5_running_sessions.specs.Kept.{nothing_reached, units_of};
 ghost use Rattle.cmi5_running_sessions.specs.Room.{needs_unit};
 ghost use Rattle.lrs_json.specs.View.{view};
@@ -25,7 +25,7 @@ pub(crate) struct ReachedByRegistration {
 }
 
 impl Model for ReachedByRegistration {
-    ghost use Rattle.cmi5_running_sessions.specs.Entries.{UnitsByRegistration};
+    ghost use Rattle.cmi5_running_sessions.specs.Maps.{UnitsByRegistration};
 
     ghost Value = { UnitsByRegistration };
 

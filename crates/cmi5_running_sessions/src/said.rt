@@ -1,8 +1,8 @@
 // What was said, session by session.
 ghost use Rattle.std.specs.Prelude.{◌≡◌, [], ℕ, List, IsTrue, true, is_some, option_map, OnOk};
 ghost use Rattle.std.specs.Map.{lookup};
-ghost use Rattle.cmi5_running_sessions.specs.Entries.{is_empty_slot, is_nothing_said, kept_in, own_behind, taken_back};
-ghost use Rattle.cmi5_running_sessions.specs.Entries.{ChangesAt, MakesAt};
+ghost use Rattle.cmi5_running_sessions.specs.Maps.{is_empty_slot, is_nothing_said, kept_in, own_behind, taken_back};
+ghost use Rattle.cmi5_running_sessions.specs.Maps.{ChangesAt, MakesAt};
 ghost use Rattle.cmi5_running_sessions.specs.Kept.{is_same, nothing_said};
 ghost use Rattle.cmi5_running_sessions.specs.Room.{needs_own};
 

@@ -1,7 +1,7 @@
 // What is kept of sessions.
 ghost use Rattle.std.specs.Prelude.{◌≡◌, ◌<◌, ◌+◌, ◌^◌, [], ◌∷◌, ◌++◌, List, true, false, length, OnOk};
 ghost use Rattle.cmi5_session.specs.Cmi5LaunchNames.{terminated};
-ghost use Rattle.cmi5_running_sessions.specs.Entries.{phase_by};
+ghost use Rattle.cmi5_running_sessions.specs.Maps.{phase_by};
 ghost use Rattle.cmi5_running_sessions.specs.Kept.{SaidStandsFor};
 ghost use Rattle.cmi5_running_sessions.specs.Room.{HasSlotsFor, HasSlotsForEach, KeepsSlots, MakesSlots};
 ghost use Rattle.cmi5_running_sessions.specs.Room.{TakesSlotsBack};

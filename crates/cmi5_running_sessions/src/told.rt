@@ -10,10 +10,8 @@ ghost use Rattle.cmi5_session.specs.XapiStatementStatements.{is_that_id};
 ghost use Rattle.cmi5_session.specs.XapiStatementStatement.{activity_of, registration_of};
 
 use cmi5_session::cmi5_launch::names::{COMPLETED, PASSED};
-use cmi5_session::is_cmi5_defined;
-use cmi5_session::xapi_statement::{
-    Authority, StoredStatement, activity_of, registration_of, verb_of,
-};
+use cmi5_session::says;
+use cmi5_session::xapi_statement::{Authority, StoredStatement, activity_of, registration_of};
 use lrs_json::{Text, Tree};
 use lrs_names::Id;
 
@@ -25,13 +23,6 @@ pub(crate) fn session_of(authority: &Authority) -> Option<Id>
         Authority::Session(own) => Some(*own),
         Authority::Admin | Authority::Provider { .. } | Authority::Desk => None,
     }
-}
-
-/// Whether it is a statement of that verb that cmi5 defines.
-pub(crate) fn says(verb: &str, statement: &Tree) -> bool
-    ensures { result ≡ says verb.now (view statement.now) }
-{
-    verb_of(statement) == verb && is_cmi5_defined(statement)
 }
 
 // Whether it says something that is counted.

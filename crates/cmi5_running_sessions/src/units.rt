@@ -1,13 +1,13 @@
 // What was reached of the units of one registration.
 ghost use Rattle.std.specs.Prelude.{◌≡◌, ◌<◌, ◌≤◌, [], IsTrue, is_some, nat_lt, length, option_map, None, IfOk, OnOk};
 ghost use Rattle.std.specs.Map.{lookup};
-ghost use Rattle.cmi5_running_sessions.specs.Entries.{is_empty_slot, is_nothing_reached, one_less, one_more};
-ghost use Rattle.cmi5_running_sessions.specs.Entries.{reached_behind, reached_without, ChangesAt, MakesAt};
+ghost use Rattle.cmi5_running_sessions.specs.Maps.{is_empty_slot, is_nothing_reached};
+ghost use Rattle.cmi5_running_sessions.specs.Maps.{reached_behind, reached_without, ChangesAt, MakesAt};
 ghost use Rattle.cmi5_running_sessions.specs.Kept.{is_same, nothing_reached};
 ghost use Rattle.lrs_json.specs.View.{view};
 
-use crate::told::says;
 use cmi5_session::cmi5_launch::names::{COMPLETED, PASSED};
+use cmi5_session::{one_less, one_more, says};
 use lrs_json::{Memory, Text, Tree};
 use std::collections::BTreeMap;
 use std::marker::Model;
@@ -40,8 +40,8 @@ impl Reached {
         ensures { self.new ≡ reached_behind (view statement.now) self.old }
     {
         *self = Reached {
-            completed: one_more(says(COMPLETED, statement), self.completed),
-            passed: one_more(says(PASSED, statement), self.passed),
+            completed: one_more(self.completed, says(COMPLETED, statement)),
+            passed: one_more(self.passed, says(PASSED, statement)),
         };
     }
 
@@ -50,22 +50,10 @@ impl Reached {
         ensures { self.new ≡ reached_without (view statement.now) self.old }
     {
         *self = Reached {
-            completed: one_less(says(COMPLETED, statement), self.completed),
-            passed: one_less(says(PASSED, statement), self.passed),
+            completed: one_less(self.completed, says(COMPLETED, statement)),
+            passed: one_less(self.passed, says(PASSED, statement)),
         };
     }
-}
-
-fn one_more(more: bool, n: usize) -> usize
-    ensures { result ≡ one_more more n }
-{
-    if more { n.saturating_add(1) } else { n }
-}
-
-fn one_less(less: bool, n: usize) -> usize
-    ensures { result ≡ one_less less n }
-{
-    if less { n.saturating_sub(1) } else { n }
 }
 
 /// What was reached of the units of one registration, by activity. It is kept of one unit at least.

@@ -12,5 +12,5 @@ use Rattle.xapi_statement.specs.Stored.{StoredStatement}
 pub nodes_behind : (course : Course) (nodes : List Node) → nodes ≡ course.nodes → course ≡ course_of course.tree → StandBehindHolders nodes
 nodes_behind course nodes lent read = subst (λ ns. StandBehindHolders ns) (sym (lent ∙ ap (λ (c : Course). c.nodes) read)) (behind_holders (view course.tree))
 
-pub places_of_one : (sessions : SeenSessions) (statement : StoredStatement) (those : List StoredStatement) → those ≡ statement ∷ [] → HasSlotsForEach sessions those → HasSlotsFor sessions statement
-places_of_one sessions statement those one each = (subst (λ ss. HasSlotsForEach sessions ss) one each).0
+pub slots_of_one : (sessions : SeenSessions) (statement : StoredStatement) (those : List StoredStatement) → those ≡ statement ∷ [] → HasSlotsForEach sessions those → HasSlotsFor sessions statement
+slots_of_one sessions statement those one each = (subst (λ ss. HasSlotsForEach sessions ss) one each).0

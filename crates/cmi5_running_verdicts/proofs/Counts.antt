@@ -1,22 +1,11 @@
 -- How many pass a test: by one item more, and where the test changes at one index.
-use Rattle.std.proofs.Common.{◌≡◌, ◌∙◌, ◌==◌, ◌+◌, ◌-◌, ◌<◌, ◌≤◌, ℕ, zero, suc, Bool, false, List, [], ◌∷◌, ◌++◌, cond, refl, sym, ap, subst, arith, ⊎_elim}
+use Rattle.std.proofs.Common.{◌≡◌, ◌∙◌, ◌==◌, ◌+◌, ◌-◌, ◌<◌, ◌≤◌, ℕ, zero, suc, Bool, false, List, refl, sym, ap, subst, arith, ⊎_elim}
 use Rattle.std.specs.List.{count_by, range_with_len}
 use Rattle.std.proofs.lemmas.Bool.{cases_lt, ne_eqb}
 use Rattle.std.proofs.lemmas.List.FromFn.{length-range_with_len}
-use Rattle.std.proofs.lemmas.List.Sums.{count_by-le-length, sum_by-append, sum_by-cons, sum_by_push}
-use Rattle.cmi5_running_verdicts.specs.Changes.{one_if}
+use Rattle.std.proofs.lemmas.List.Sums.{count_by-le-length}
+use Rattle.cmi5_verdict.specs.Cmi5SessionCountsProofs.{count_cons, one_if}
 use Rattle.cmi5_verdict.proofs.Marked.{range_on, range_over}
-
--- ---- one item more
-
-pub count_cons : {A : Type 0} (test : A → Bool) (x : A) (xs : List A) → count_by test (x ∷ xs) ≡ one_if (test x) + count_by test xs
-count_cons test x xs = sum_by-cons (λ y. cond (test y) 1 0) x xs
-
-pub count_push : {A : Type 0} (test : A → Bool) (xs : List A) (x : A) → count_by test (xs ++ x ∷ []) ≡ count_by test xs + one_if (test x)
-count_push test xs x = sum_by_push (λ y. cond (test y) 1 0) xs x
-
-pub count_around : {A : Type 0} (test : A → Bool) (before : List A) (x : A) (behind : List A) → count_by test (before ++ x ∷ behind) ≡ count_by test before + (one_if (test x) + count_by test behind)
-count_around test before x behind = sum_by-append (λ y. cond (test y) 1 0) before (x ∷ behind) ∙ ap (λ n. count_by test before + n) (count_cons test x behind)
 
 -- ---- numbers of nodes
 

@@ -3,11 +3,12 @@ use Rattle.std.proofs.Common.{◌≡◌, ◌∙◌, ◌+◌, ◌-◌, ◌^◌, �
 use Rattle.std.specs.List.{count_by, range_with_len}
 use Rattle.std.proofs.lemmas.List.{get_or-replicate, length-replicate}
 use Rattle.cmi5_course.specs.declared.course.Node.{Node}
-use Rattle.cmi5_running_verdicts.specs.Changes.{fresh_tally, moved, moved_if, one_if, only_unmet, tally_of, untold}
+use Rattle.cmi5_running_verdicts.specs.Changes.{fresh_tally, moved, moved_if, only_unmet, tally_of, untold}
 use Rattle.cmi5_running_verdicts.specs.Tallies.{AreTallies, IsTally}
 use Rattle.cmi5_running_verdicts.specs.declared.tally.Tally.{Tally}
 use Rattle.cmi5_running_verdicts.proofs.Counts.{count_on, count_over, few_pass}
 use Rattle.cmi5_running_verdicts.proofs.Settled.{tallies_from}
+use Rattle.cmi5_verdict.specs.Cmi5SessionCountsProofs.{one_if}
 use Rattle.cmi5_verdict.specs.Nodes.{SeenEnrolment}
 use Rattle.cmi5_verdict.proofs.Marked.{range_first}
 

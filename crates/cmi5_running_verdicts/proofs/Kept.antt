@@ -41,7 +41,7 @@ put_in xs r i old new e before after same is step stands =
 
 -- ---- behind all others
 
-last_held : {A : Type 0} (xs : List A) (y : A) → slice_get (xs ++ y ∷ []) (length xs) ≡ Some y
+pub last_held : {A : Type 0} (xs : List A) (y : A) → slice_get (xs ++ y ∷ []) (length xs) ≡ Some y
 last_held [] y = refl
 last_held (x ∷ xs) y = last_held xs y
 

@@ -1,23 +1,23 @@
 -- What marked statements say of a node: by one statement more, and by one that is voided.
-use Rattle.std.proofs.Common.{◌≡◌, ◌∙◌, ◌&&◌, ◌||◌, ◌+◌, ◌-◌, ◌^◌, ◌<◌, ◌≤◌, ℕ, Bool, true, false, not, List, [], ◌∷◌, ◌++◌, length, min, refl, sym, ap, arith}
-use Rattle.std.proofs.Math.Bool.{or-false}
+use Rattle.std.proofs.Common.{◌≡◌, ◌∙◌, ◌&&◌, ◌||◌, ◌+◌, ◌-◌, ◌^◌, ◌<◌, ℕ, Bool, true, false, not, List, [], ◌∷◌, ◌++◌, length, refl, sym, ap}
+use Rattle.std.proofs.Math.Bool.{and-false, or-false}
 use Rattle.std.specs.Prelude.{if◌then◌else◌, nat_lt}
 use Rattle.std.specs.List.{list_any}
 use Rattle.std.specs.Option.{option_map_or}
 use Rattle.std.specs.Str.{bytes_eq}
 use Rattle.std.proofs.lemmas.List.Folds.{list_any-append}
-use Rattle.std.proofs.lemmas.List.Sums.{count_by-le-length}
 use Rattle.cmi5_verdict.specs.Cmi5LaunchNames.{completed, passed, satisfied, waived}
-use Rattle.cmi5_running_verdicts.specs.Changes.{added, is_about, is_met_with, one_if, one_less, one_more, removed}
+use Rattle.cmi5_running_verdicts.specs.Changes.{added, is_about, is_met_with, removed}
 use Rattle.cmi5_running_verdicts.specs.Tallies.{IsTally, how_many_say, is_met_by_all, said_by_all, said_in_tally, says_of_node, says_still}
 use Rattle.cmi5_running_verdicts.specs.declared.tally.Tally.{Tally}
+use Rattle.cmi5_verdict.specs.Cmi5SessionCounting.{one_less, one_more}
+use Rattle.cmi5_verdict.specs.Cmi5SessionCountsProofs.{count_less, count_none, count_one, count_same}
 use Rattle.cmi5_verdict.specs.Cmi5SessionMarked.{MarkedStatement, mark}
 use Rattle.cmi5_verdict.specs.Cmi5SessionOwn.{is_cmi5_defined}
 use Rattle.cmi5_verdict.specs.Nodes.{SeenEnrolment, activity_of_node, unit_in}
 use Rattle.cmi5_verdict.specs.Said.{meets, said_with}
 use Rattle.cmi5_verdict.specs.declared.said.Said.{Said}
-use Rattle.cmi5_verdict.proofs.Spoken.{same_said}
-use Rattle.cmi5_running_verdicts.proofs.Counts.{count_around, count_push}
+use Rattle.cmi5_verdict.proofs.Spoken.{flag, same_said}
 use Rattle.lrs_json.specs.View.{view}
 use Rattle.cmi5_verdict.specs.XapiStatementStatements.{is_that_id}
 use Rattle.cmi5_verdict.specs.XapiStatementStatement.{activity_of, registration_of, verb_of}
@@ -41,40 +41,7 @@ said_alike e those index t is = same_said _ _ _ _ _ _ _ _ (ap (λ n. nat_lt 0 n)
 pub met_alike : (e : SeenEnrolment) (those : List MarkedStatement) (index : ℕ) (t : Tally) → IsSaid e those index t → is_met_with e.nodes index t ≡ is_met_by_all e those index
 met_alike e those index t is = ap (λ (s : Said). option_map_or (λ unit. meets unit.move_on s) (unit_in e.nodes index) true) (said_alike e those index t is)
 
--- ---- numbers
-
-plus_none : (a : ℕ) → a + 0 ≡ a
-plus_none a = omega arith
-
-fits : (number all long : ℕ) → number ≡ all → all ≤ long → long + 1 < 2 ^ 64 → number + 1 < 2 ^ 64
-fits number all long is le few = omega arith
-
-one_more_is : (number : ℕ) (counts : Bool) → number + 1 < 2 ^ 64 → one_more number counts ≡ number + one_if counts
-one_more_is number true few =
-    let is : min (number + 1) (2 ^ 64 - 1) ≡ number + 1 = omega arith in
-    is
-one_more_is number false few = sym (plus_none number)
-
-less_one : (number a c : ℕ) → number ≡ a + (1 + c) → number - 1 ≡ a + (0 + c)
-less_one number a c is = omega arith
-
-one_less_is : (said : Bool) (number a c : ℕ) → number ≡ a + (one_if (said && not false) + c) → one_less number (said && not false) ≡ a + (one_if (said && not true) + c)
-one_less_is true number a c is = less_one number a c is
-one_less_is false number a c is = is
-
 -- ---- what one statement says
-
--- by its verb, and whether it is in the registration, is defined and is about the node
-flag : (v r d a : Bool) → ((v && d) && r) && a ≡ (if (r && d) && a then v else false)
-flag true true true true = refl
-flag true true true false = refl
-flag true true false a = refl
-flag true false true a = refl
-flag true false false a = refl
-flag false true true true = refl
-flag false true true false = refl
-flag false true false a = refl
-flag false false d a = refl
 
 module _ (e : SeenEnrolment) (index : ℕ) (m : MarkedStatement) (verb : List ℕ) where
   says_if : says_of_node e verb index m ≡ (if is_about e index (view m.statement.received) then bytes_eq (verb_of (view m.statement.received)) verb else false)
@@ -94,12 +61,8 @@ any_push : {A : Type 0} (test : A → Bool) (xs : List A) (x : A) → list_any t
 any_push test xs x = list_any-append test xs (x ∷ []) ∙ ap (λ b. list_any test xs || b) (or-false (test x))
 
 module _ (e : SeenEnrolment) (those : List MarkedStatement) (m : MarkedStatement) (index : ℕ) where
-  many_push : (verb : List ℕ) → how_many_say e (those ++ m ∷ []) verb index ≡ how_many_say e those verb index + one_if (says_of_node e verb index m && not m.voided)
-  many_push verb = count_push (says_still e verb index) those m
-
   many_same : (verb : List ℕ) → is_about e index (view m.statement.received) ≡ false → how_many_say e (those ++ m ∷ []) verb index ≡ how_many_say e those verb index
-  many_same verb elsewhere =
-      many_push verb ∙ (ap (λ b. how_many_say e those verb index + one_if (b && not m.voided)) (says_none e index m verb elsewhere) ∙ plus_none (how_many_say e those verb index))
+  many_same verb elsewhere = count_none (says_still e verb index) those m (ap (λ b. b && not m.voided) (says_none e index m verb elsewhere))
 
   any_same : is_about e index (view m.statement.received) ≡ false → list_any (says_of_node e satisfied index) (those ++ m ∷ []) ≡ list_any (says_of_node e satisfied index) those
   any_same elsewhere =
@@ -119,9 +82,7 @@ module _ (e : SeenEnrolment) (those : List MarkedStatement) (m : MarkedStatement
       → one_more number (bytes_eq (verb_of (view m.statement.received)) verb && not m.voided) ≡ how_many_say e (those ++ m ∷ []) verb index
   many_more verb number few here is =
       let counts : Bool = bytes_eq (verb_of (view m.statement.received)) verb && not m.voided in
-      one_more_is number counts (fits number (how_many_say e those verb index) (length those) is (count_by-le-length (says_still e verb index) those) few)
-      ∙ (ap (λ n. n + one_if counts) is
-      ∙ sym (many_push verb ∙ ap (λ b. how_many_say e those verb index + one_if (b && not m.voided)) (says_here e index m verb here)))
+      ap (λ n. one_more n counts) is ∙ count_one (says_still e verb index) those m counts (ap (λ b. b && not m.voided) (says_here e index m verb here)) few
 
   any_more : (said : Bool) → is_about e index (view m.statement.received) ≡ true → said ≡ list_any (says_of_node e satisfied index) those
       → said || bytes_eq (verb_of (view m.statement.received)) satisfied ≡ list_any (says_of_node e satisfied index) (those ++ m ∷ [])
@@ -150,18 +111,10 @@ module _ (e : SeenEnrolment) (before behind : List MarkedStatement) (s : StoredS
   abbrev marked_with : Bool → List MarkedStatement
   marked_with voided = before ++ mark s voided ∷ behind
 
-  many_around : (verb : List ℕ) (voided : Bool) → how_many_say e (marked_with voided) verb index
-      ≡ how_many_say e before verb index + (one_if (says_of_node e verb index (mark s voided) && not voided) + how_many_say e behind verb index)
-  many_around verb voided = count_around (says_still e verb index) before (mark s voided) behind
-
-  many_known : (verb : List ℕ) (voided said : Bool) → says_of_node e verb index (mark s voided) ≡ said
-      → how_many_say e (marked_with voided) verb index ≡ how_many_say e before verb index + (one_if (said && not voided) + how_many_say e behind verb index)
-  many_known verb voided said is =
-      many_around verb voided ∙ ap (λ b. how_many_say e before verb index + (one_if (b && not voided) + how_many_say e behind verb index)) is
-
   many_kept : (verb : List ℕ) → is_about e index (view s.received) ≡ false → how_many_say e (marked_with false) verb index ≡ how_many_say e (marked_with true) verb index
   many_kept verb elsewhere =
-      many_known verb false false (says_none e index (mark s false) verb elsewhere) ∙ sym (many_known verb true false (says_none e index (mark s true) verb elsewhere))
+      count_same (says_still e verb index) before behind (mark s false) (mark s true) (ap (λ b. b && not false) (says_none e index (mark s false) verb elsewhere))
+      (and-false (says_of_node e verb index (mark s true)))
 
   any_kept : list_any (says_of_node e satisfied index) (marked_with false) ≡ list_any (says_of_node e satisfied index) (marked_with true)
   any_kept =
@@ -178,10 +131,10 @@ module _ (e : SeenEnrolment) (before behind : List MarkedStatement) (s : StoredS
   many_less : (verb : List ℕ) (number : ℕ) → is_about e index (view s.received) ≡ true → number ≡ how_many_say e (marked_with false) verb index
       → one_less number (bytes_eq (verb_of (view s.received)) verb && not false) ≡ how_many_say e (marked_with true) verb index
   many_less verb number here is =
-      let said : Bool = bytes_eq (verb_of (view s.received)) verb in
-      one_less_is said number (how_many_say e before verb index) (how_many_say e behind verb index)
-      (is ∙ many_known verb false said (says_here e index (mark s false) verb here))
-      ∙ sym (many_known verb true said (says_here e index (mark s true) verb here))
+      let counted : Bool = bytes_eq (verb_of (view s.received)) verb && not false in
+      ap (λ n. one_less n counted) is
+      ∙ count_less (says_still e verb index) before behind (mark s false) (mark s true) counted (ap (λ b. b && not false) (says_here e index (mark s false) verb here))
+      (and-false (says_of_node e verb index (mark s true)))
 
   pub voided_here : (t : Tally) → is_about e index (view s.received) ≡ true → IsSaid e (before ++ mark s false ∷ behind) index t
       → IsSaid e (before ++ mark s true ∷ behind) index (removed (said_with (verb_of (view s.received)) false) t)

@@ -3,11 +3,12 @@ use Rattle.std.proofs.Common.{◌≡◌, ◌∙◌, ◌&&◌, ◌==◌, ◌+◌,
 use Rattle.std.specs.Prelude.{if◌then◌else◌}
 use Rattle.std.proofs.lemmas.Bool.{eq-eqb, eqb-true}
 use Rattle.std.proofs.lemmas.Option.{get_or_from_slice_get, slice_get-get_or, slice_get_within}
-use Rattle.cmi5_running_verdicts.specs.Changes.{added, differ, is_about, is_met_with, moved_if, one_if, removed, settled, tally_of, untold}
+use Rattle.cmi5_running_verdicts.specs.Changes.{added, differ, is_about, is_met_with, moved_if, removed, settled, tally_of, untold}
 use Rattle.cmi5_running_verdicts.specs.Tallies.{AreTallies, IsTally, is_met_by_all, unmet_under}
 use Rattle.cmi5_running_verdicts.specs.declared.tally.Tally.{Tally}
 use Rattle.cmi5_running_verdicts.proofs.Counts.{count_alike, count_moved, few_pass}
 use Rattle.cmi5_running_verdicts.proofs.Marks.{IsSaid, added_unmet, counted_elsewhere, counted_here, met_alike, removed_unmet, said_part, voided_elsewhere, voided_here}
+use Rattle.cmi5_verdict.specs.Cmi5SessionCountsProofs.{one_if}
 use Rattle.cmi5_verdict.specs.Cmi5SessionMarked.{MarkedStatement, mark}
 use Rattle.cmi5_verdict.specs.Nodes.{SeenEnrolment, is_under}
 use Rattle.cmi5_verdict.specs.Said.{said_with}
@@ -116,18 +117,18 @@ module _ (e : SeenEnrolment) (from to : List MarkedStatement) (old new : List Ta
   between holder = if index == holder then t else tally_of old holder
 
   said_between : (holder : ℕ) → holder < length e.nodes → IsSaid e to holder (between holder)
-  said_between holder lt = by_place (index == holder) refl
+  said_between holder lt = by_holder (index == holder) refl
     where
-      by_place : (b : Bool) → (index == holder) ≡ b → IsSaid e to holder (if b then t else tally_of old holder)
-      by_place true is = subst (λ k. IsSaid e to k t) (eqb-true index holder is) here
-      by_place false is = elsewhere holder lt is (tally_of old holder) (old_said holder lt)
+      by_holder : (b : Bool) → (index == holder) ≡ b → IsSaid e to holder (if b then t else tally_of old holder)
+      by_holder true is = subst (λ k. IsSaid e to k t) (eqb-true index holder is) here
+      by_holder false is = elsewhere holder lt is (tally_of old holder) (old_said holder lt)
 
   unmet_between : (holder : ℕ) → (between holder).unmet ≡ (tally_of old holder).unmet
-  unmet_between holder = by_place (index == holder) refl
+  unmet_between holder = by_holder (index == holder) refl
     where
-      by_place : (b : Bool) → (index == holder) ≡ b → (if b then t else tally_of old holder).unmet ≡ (tally_of old holder).unmet
-      by_place true is = kept ∙ ap (λ k. (tally_of old k).unmet) (eqb-true index holder is)
-      by_place false is = refl
+      by_holder : (b : Bool) → (index == holder) ≡ b → (if b then t else tally_of old holder).unmet ≡ (tally_of old holder).unmet
+      by_holder true is = kept ∙ ap (λ k. (tally_of old k).unmet) (eqb-true index holder is)
+      by_holder false is = refl
 
   unmet_now : (holder : ℕ) → holder < length e.nodes → (settled e.nodes index t old holder).unmet ≡ unmet_under e to holder
   unmet_now holder lt =

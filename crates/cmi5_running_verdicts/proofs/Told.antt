@@ -14,10 +14,11 @@ use Rattle.cmi5_running_verdicts.specs.Changes.{tally_of, untold}
 use Rattle.cmi5_running_verdicts.specs.Tallies.{AreTallies, is_met_by_all, said_by_all, said_in_tally, says_of_node, says_still, unmet_under}
 use Rattle.cmi5_running_verdicts.specs.Told.{any_voids, is_all_met_at, is_waived_at, said_at, voids_one}
 use Rattle.cmi5_running_verdicts.specs.declared.tally.Tally.{Tally}
+use Rattle.cmi5_verdict.specs.Cmi5SessionCounting.{counts}
 use Rattle.cmi5_verdict.specs.Cmi5SessionMarked.{mark, marked}
 use Rattle.cmi5_verdict.specs.Nodes.{SeenEnrolment, activity_of_node, is_met_at, is_satisfied, is_under, indices, under, unit_in, verdicts}
 use Rattle.cmi5_verdict.specs.Said.{counts_for, either, meets, said_among, said_in, said_of, unsaid}
-use Rattle.cmi5_verdict.specs.Units.{counts, stands}
+use Rattle.cmi5_verdict.specs.Units.{stands}
 use Rattle.cmi5_verdict.specs.declared.said.Said.{Said}
 use Rattle.cmi5_verdict.proofs.Marked.{map_alike}
 use Rattle.cmi5_verdict.proofs.Spoken.{among_both, same_said}

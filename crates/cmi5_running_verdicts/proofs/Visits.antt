@@ -4,7 +4,6 @@ use Rattle.std.proofs.Common.{◌≡◌, ◌∙◌, ◌+◌, ◌<◌, ◌≤◌,
 use Rattle.std.specs.Prelude.{filter}
 use Rattle.std.specs.List.{count_by, list_any}
 use Rattle.std.specs.Option.{option_map_or}
-use Rattle.std.specs.Str.{bytes_eq}
 use Rattle.std.proofs.lemmas.Bool.{le-ltb, lt-ltb, ltb-false}
 use Rattle.std.proofs.lemmas.List.{drop_all, drop_more, take_all}
 use Rattle.std.proofs.lemmas.List.Sums.{length-filter}
@@ -27,6 +26,7 @@ use Rattle.cmi5_verdict.specs.XapiStatementStatement.{activity_of, registration_
 use Rattle.cmi5_verdict.specs.XapiStatementStored.{StoredStatement}
 use Rattle.cmi5_verdict.specs.XapiStatementKeysKeys.{has_key}
 use Rattle.cmi5_verdict.specs.XapiStatementKeysKeyKeyTheVariants as key
+use Rattle.cmi5_verdict.proofs.Posted.{named, one_on}
 
 -- ---- how many pass
 
@@ -97,10 +97,6 @@ off : (a b c : Bool) → b ≡ false → (a && b) && c ≡ false
 off true b c is = ap (λ t. t && c) is
 off false b c is = refl
 
-same_registration : (id : List ℕ) (o : Option (List ℕ)) → is_that_id id o ≡ option_map_or (λ own. bytes_eq own id) o false
-same_registration id None = refl
-same_registration id (Some own) = refl
-
 abbrev is_registered : SeenEnrolment → StoredStatement → Bool
 is_registered e s = has_key (key.Registration e.registration) s
 
@@ -111,7 +107,7 @@ marking statements s = mark s (is_voided statements s)
 silent : (e : SeenEnrolment) (verb : List ℕ) (index : ℕ) (s : StoredStatement) (voided : Bool) → is_registered e s ≡ false → says_of_node e verb index (mark s voided) ≡ false
 silent e verb index s voided other =
     off (says verb (view s.received)) (is_that_id e.registration (registration_of (view s.received))) (is_that_id (activity_of_node e index) (activity_of (view s.received)))
-    (same_registration e.registration (registration_of (view s.received)) ∙ other)
+    (named e.registration (registration_of (view s.received)) ∙ other)
 
 registered_say_all : (e : SeenEnrolment) (statements : List StoredStatement) → SaySame e (marked_by statements (filter (is_registered e) statements)) (marked statements)
 registered_say_all e statements = record {
@@ -129,9 +125,6 @@ registered_say_all e statements = record {
 
 none_on : (n : ℕ) → 0 + n ≡ n
 none_on n = omega arith
-
-one_on : (i n : ℕ) → i + 1 + n ≡ i + suc n
-one_on i n = omega arith
 
 stays : (i : ℕ) → i ≡ i + zero
 stays i = omega arith
@@ -194,11 +187,11 @@ voided_in_all statements n at s voided long there is =
 
 short : (statements : List StoredStatement) (o : Option ℕ) → length (option_map_or (marked_at statements) o []) ≤ 1
 short statements None = omega arith
-short statements (Some k) = by_place (slice_get statements k)
+short statements (Some k) = by_holder (slice_get statements k)
   where
-    by_place : (o : Option StoredStatement) → length (option_map_or (λ s. mark s (is_voided statements s) ∷ []) o []) ≤ 1
-    by_place None = omega arith
-    by_place (Some s) = omega arith
+    by_holder : (o : Option StoredStatement) → length (option_map_or (λ s. mark s (is_voided statements s) ∷ []) o []) ≤ 1
+    by_holder None = omega arith
+    by_holder (Some s) = omega arith
 
 -- The tallies stand for the statements at the positions before that index.
 pub record Counting (e : SeenEnrolment) (statements : List StoredStatement) (ks : List ℕ) (nth : ℕ) (ts : List Tally) : Type 0 where

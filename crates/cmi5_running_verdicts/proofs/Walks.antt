@@ -8,14 +8,9 @@ use Rattle.cmi5_running_verdicts.specs.Changes.{differ, is_met_with, moved, move
 use Rattle.cmi5_running_verdicts.specs.Holding.{StandBehindHolders}
 use Rattle.cmi5_running_verdicts.specs.declared.tally.Tally.{Tally}
 use Rattle.cmi5_verdict.specs.Nodes.{is_under, outward, parent_of}
-use Rattle.cmi5_verdict.proofs.Holders.{is_among}
+use Rattle.cmi5_verdict.proofs.Holders.{is_among, outward_none}
 
 -- ---- none is met twice
-
--- behind the outermost there is none
-outward_none : (nodes : List Node) (steps : ℕ) → outward nodes steps None ≡ []
-outward_none nodes zero = refl
-outward_none nodes (suc steps) = refl
 
 -- a walk meets none that stands behind its first
 none_behind : (nodes : List Node) → StandBehindHolders nodes → (steps index holder : ℕ) → index < holder → is_among holder (outward nodes steps (Some index)) ≡ false

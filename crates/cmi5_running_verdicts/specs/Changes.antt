@@ -1,11 +1,12 @@
 -- How what is counted of the nodes of a course changes, by one statement more or one that is voided.
-use Rattle.std.specs.Prelude.{ℕ, ◌+◌, ◌-◌, ◌^◌, ◌==◌, ◌&&◌, ◌||◌, Bool, true, false, not, List, cond, get_or, min}
+use Rattle.std.specs.Prelude.{ℕ, ◌+◌, ◌-◌, ◌^◌, ◌==◌, ◌&&◌, ◌||◌, Bool, true, false, not, List, get_or, min}
 use Rattle.std.specs.Prelude.{if◌then◌else◌}
 use Rattle.std.specs.Option.{option_map_or}
 use Rattle.cmi5_course.specs.declared.course.Node.{Node}
 use Rattle.cmi5_running_verdicts.specs.Holding.{failing_under}
 use Rattle.cmi5_running_verdicts.specs.Tallies.{said_in_tally}
 use Rattle.cmi5_running_verdicts.specs.declared.tally.Tally.{Tally}
+use Rattle.cmi5_verdict.specs.Cmi5SessionCounting.{one_less, one_more}
 use Rattle.cmi5_verdict.specs.Cmi5SessionOwn.{is_cmi5_defined}
 use Rattle.cmi5_verdict.specs.Nodes.{SeenEnrolment, activity_of_node, is_under, unit_in}
 use Rattle.cmi5_verdict.specs.Said.{meets}
@@ -44,17 +45,6 @@ abbrev pub is_about : SeenEnrolment → ℕ → Json → Bool
 is_about e index j =
     is_that_id e.registration (registration_of j) && is_cmi5_defined j
     && is_that_id (activity_of_node e index) (activity_of j)
-
-abbrev pub one_if : Bool → ℕ
-one_if holds = cond holds 1 0
-
--- One more, where it counts. A number stands still at its type's end.
-abbrev pub one_more : ℕ → Bool → ℕ
-one_more number counts = if counts then min (number + 1) (2 ^ 64 - 1) else number
-
--- one less, where it counts
-abbrev pub one_less : ℕ → Bool → ℕ
-one_less number counts = if counts then number - 1 else number
 
 -- a statement more says this of the node
 unfoldable pub added : Said → Tally → Tally

@@ -4,7 +4,6 @@ pub use Rattle.cmi5_verdict.specs.Units as Cmi5VerdictUnits
 pub use Rattle.cmi5_verdict.specs.XapiIndexAddingProofs as XapiIndexAddingProofs
 pub use Rattle.cmi5_verdict.specs.XapiIndexAhead as XapiIndexAhead
 pub use Rattle.cmi5_verdict.specs.XapiIndexBatches as XapiIndexBatches
-pub use Rattle.cmi5_verdict.specs.XapiIndexComingProofs as XapiIndexComingProofs
 pub use Rattle.cmi5_verdict.specs.XapiIndexFirstsProofs as XapiIndexFirstsProofs
 pub use Rattle.cmi5_verdict.specs.XapiIndexFoundProofs as XapiIndexFoundProofs
 pub use Rattle.cmi5_verdict.specs.XapiIndexIndex as XapiIndexIndex

@@ -6,10 +6,10 @@ use Rattle.std.specs.Option.{option_map_or}
 use Rattle.cmi5_verdict.specs.Cmi5LaunchNames.{completed, passed, satisfied, waived}
 use Rattle.cmi5_running_verdicts.specs.Holding.{failing_under}
 use Rattle.cmi5_running_verdicts.specs.declared.tally.Tally.{Tally}
+use Rattle.cmi5_verdict.specs.Cmi5SessionCounting.{counts}
 use Rattle.cmi5_verdict.specs.Cmi5SessionMarked.{MarkedStatement}
 use Rattle.cmi5_verdict.specs.Nodes.{SeenEnrolment, activity_of_node, unit_in}
 use Rattle.cmi5_verdict.specs.Said.{meets}
-use Rattle.cmi5_verdict.specs.Units.{counts}
 use Rattle.cmi5_verdict.specs.declared.said.Said.{Said}
 use Rattle.lrs_json.specs.View.{view}
 

@@ -1,10 +1,10 @@
 // What is counted of a node of a course.
 ghost use Rattle.std.specs.Prelude.{◌≡◌, ◌||◌, nat_lt, slice_set};
-ghost use Rattle.cmi5_running_verdicts.specs.Changes.{added, moved, next_unmet, one_less, one_more, removed, tally_of};
-ghost use Rattle.cmi5_running_verdicts.specs.Changes.{untold};
+ghost use Rattle.cmi5_running_verdicts.specs.Changes.{added, moved, next_unmet, removed, tally_of, untold};
 ghost use Rattle.cmi5_running_verdicts.specs.Tallies.{said_in_tally};
 
 use cmi5_verdict::Said;
+use cmi5_verdict::cmi5_session::{one_less, one_more};
 
 /// What the statements of a registration say of a node, and what is still missing under it.
 #[derive(Clone, Copy)]
@@ -89,26 +89,6 @@ fn is_positive(number: usize) -> bool
     ensures { result ≡ nat_lt 0 number }
 {
     0 < number
-}
-
-fn one_more(number: usize, counts: bool) -> usize
-    ensures { result ≡ one_more number counts }
-{
-    if counts {
-        number.saturating_add(1)
-    } else {
-        number
-    }
-}
-
-fn one_less(number: usize, counts: bool) -> usize
-    ensures { result ≡ one_less number counts }
-{
-    if counts {
-        number.saturating_sub(1)
-    } else {
-        number
-    }
 }
 
 fn one_holds(a: bool, b: bool) -> bool

@@ -6,9 +6,10 @@ use Rattle.std.proofs.lemmas.Cmp.{nat_list_eq_equiv}
 use Rattle.std.proofs.lemmas.List.Folds.{list_any-append}
 use Rattle.cmi5_course.specs.declared.launch.Launch.{Launch}
 use Rattle.cmi5_launch.specs.Names.{completed, initialized, passed, terminated}
+use Rattle.cmi5_session.specs.Counting.{counts}
 use Rattle.cmi5_session.specs.Own.{has_own, is_of_session, is_own, says}
 use Rattle.cmi5_session.specs.Phases.{phase_behind, phase_of}
-use Rattle.cmi5_session.specs.Views.{SeenSession, counts, counts_still, has_counting, view_behind, view_of}
+use Rattle.cmi5_session.specs.Views.{SeenSession, counts_still, has_counting, view_behind, view_of}
 use Rattle.cmi5_session.specs.declared.phase.Phase.{Phase}
 use Rattle.cmi5_session.specs.declared.phase.Phase.TheVariants as phase
 use Rattle.lrs_json.specs.View.{view}
@@ -21,7 +22,7 @@ use Rattle.cmi5_launch.specs.XapiStatementStored.{StoredStatement}
 
 -- ---- tests over one item more
 
-one_item : (a b : Bool) → a || (b || false) ≡ a || b
+pub one_item : (a b : Bool) → a || (b || false) ≡ a || b
 one_item true b = refl
 one_item false true = refl
 one_item false false = refl
@@ -56,12 +57,12 @@ own_more session verb before s own =
     ∙ ap (λ b. has_own session verb before || (b && says verb (view s.received))) (ap (is_of_session session) own ∙ nat_list_eq_equiv.refl session)
 
 counting_more : (launch : Launch) (verb : List ℕ) (before : List StoredStatement) (s : StoredStatement) → is_voiding (view s.received) ≡ false
-    → has_counting launch verb (before ++ s ∷ []) ≡ has_counting launch verb before || (counts launch verb (view s.received) && not (is_target s.id before))
+    → has_counting launch verb (before ++ s ∷ []) ≡ has_counting launch verb before || (counts launch.registration launch.activity verb (view s.received) && not (is_target s.id before))
 counting_more launch verb before s quiet =
     any_more (counts_still launch verb (before ++ s ∷ [])) before s
     ∙ (ap (λ b. b || counts_still launch verb (before ++ s ∷ []) s)
-    (any_alike (counts_still launch verb (before ++ s ∷ [])) (counts_still launch verb before) (λ x. ap (λ b. counts launch verb (view x.received) && not b) (same_voided before s x quiet)) before)
-    ∙ ap (λ b. has_counting launch verb before || (counts launch verb (view s.received) && not b))
+    (any_alike (counts_still launch verb (before ++ s ∷ [])) (counts_still launch verb before) (λ x. ap (λ b. counts launch.registration launch.activity verb (view x.received) && not b) (same_voided before s x quiet)) before)
+    ∙ ap (λ b. has_counting launch verb before || (counts launch.registration launch.activity verb (view s.received) && not b))
     (same_voided before s s quiet ∙ ap (λ b. not b && is_target s.id before) quiet))
 
 phase_more : (session : List ℕ) (fetched abandoned : Bool) (before : List StoredStatement) (s : StoredStatement) → s.authority ≡ Session session
@@ -88,7 +89,7 @@ phase_more session fetched abandoned before s own =
 
 -- ---- the whole
 
-abbrev made : Launch → Phase → Bool → Bool → SeenSession
+abbrev pub made : Launch → Phase → Bool → Bool → SeenSession
 made launch phase completed passed = record { launch = launch; phase = phase; completed = completed; passed = passed }
 
 pub same_parts : (launch : Launch) (p q : Phase) (a b c d : Bool) → p ≡ q → a ≡ b → c ≡ d → made launch p a c ≡ made launch q b d

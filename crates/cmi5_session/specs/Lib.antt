@@ -7,6 +7,7 @@ pub use Rattle.cmi5_launch.specs.Names as Cmi5LaunchNames
 pub use Rattle.cmi5_launch.specs.XapiStatementStatement as XapiStatementStatement
 pub use Rattle.cmi5_launch.specs.XapiStatementStatements as XapiStatementStatements
 pub use Rattle.cmi5_launch.specs.XapiStatementStored as XapiStatementStored
+pub mod Counting
 pub mod Marked
 pub mod Moments
 pub mod Own

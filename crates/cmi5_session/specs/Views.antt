@@ -1,17 +1,15 @@
 -- What the rules on a session look at, besides the statement that comes.
 use Rattle.std.specs.Prelude.{ℕ, ◌&&◌, ◌||◌, Bool, not, List}
 use Rattle.std.specs.List.{list_any}
-use Rattle.std.specs.Str.{bytes_eq}
 use Rattle.cmi5_course.specs.declared.launch.Launch.{Launch}
 use Rattle.cmi5_launch.specs.Names.{completed, passed}
-use Rattle.cmi5_session.specs.Own.{is_cmi5_defined}
+use Rattle.cmi5_session.specs.Counting.{counts}
 use Rattle.cmi5_session.specs.Phases.{phase_behind, phase_of}
 use Rattle.cmi5_session.specs.declared.phase.Phase.{Phase}
 use Rattle.cmi5_session.specs.declared.view.SessionView.{SessionView}
 use Rattle.lrs_json.specs.Json.{Json}
 use Rattle.lrs_json.specs.View.{view}
-use Rattle.cmi5_launch.specs.XapiStatementStatements.{is_that_id, is_voided}
-use Rattle.cmi5_launch.specs.XapiStatementStatement.{activity_of, registration_of, verb_of}
+use Rattle.cmi5_launch.specs.XapiStatementStatements.{is_voided}
 use Rattle.cmi5_launch.specs.XapiStatementStored.{StoredStatement}
 
 pub record SeenSession : Type 0 where
@@ -26,15 +24,10 @@ pub record SeenSession : Type 0 where
 abbrev pub seen : SessionView → SeenSession
 seen v = record { launch = v.launch.now; phase = v.phase; completed = v.completed; passed = v.passed }
 
--- A statement of that verb that counts for the launched unit and its registration, whosever it is.
-abbrev pub counts : Launch → List ℕ → Json → Bool
-counts launch verb j =
-    bytes_eq (verb_of j) verb && is_that_id launch.registration (registration_of j)
-    && is_that_id launch.activity (activity_of j) && is_cmi5_defined j
-
--- it counts, and is voided by none of these
+-- it counts for the launched unit and its registration, and is voided by none of these
 abbrev pub counts_still : Launch → List ℕ → List StoredStatement → StoredStatement → Bool
-counts_still launch verb statements s = counts launch verb (view s.received) && not (is_voided statements s)
+counts_still launch verb statements s =
+    counts launch.registration launch.activity verb (view s.received) && not (is_voided statements s)
 
 abbrev pub has_counting : Launch → List ℕ → List StoredStatement → Bool
 has_counting launch verb statements = list_any (counts_still launch verb statements) statements
@@ -53,6 +46,6 @@ abbrev pub view_behind : SeenSession → Json → Bool → SeenSession
 view_behind v j voided = record {
   launch = v.launch;
   phase = phase_behind v.phase j;
-  completed = v.completed || (counts v.launch completed j && not voided);
-  passed = v.passed || (counts v.launch passed j && not voided);
+  completed = v.completed || (counts v.launch.registration v.launch.activity completed j && not voided);
+  passed = v.passed || (counts v.launch.registration v.launch.activity passed j && not voided);
 }

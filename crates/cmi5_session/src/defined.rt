@@ -14,8 +14,8 @@ pub fn is_cmi5_defined(statement: &Tree) -> bool
     has_context_activity(statement, "category", CMI5_CATEGORY)
 }
 
-/// Whether it is such a statement of that verb.
-pub(crate) fn says(verb: &str, statement: &Tree) -> bool
+/// Whether it is a statement of that verb that cmi5 defines.
+pub fn says(verb: &str, statement: &Tree) -> bool
     ensures { result ≡ says verb.now (view statement.now) }
 {
     verb_of(statement) == verb && is_cmi5_defined(statement)

@@ -2,6 +2,7 @@
 //! twenty rules on what may be said of a learner (cmi5 Quartz, section 9). Begin with `rules`.
 #![tactic(auto)]
 
+mod counting;
 mod defined;
 mod phase;
 mod rules;
@@ -11,7 +12,8 @@ mod view;
 pub use cmi5_course::{Launch, Mode};
 pub use cmi5_launch;
 pub use cmi5_launch::xapi_statement;
-pub use defined::is_cmi5_defined;
+pub use counting::{one_less, one_more};
+pub use defined::{is_cmi5_defined, says};
 pub use phase::Phase;
 pub use rules::{Forbidden, permitted, permitted_outside};
 pub use view::{SessionView, is_that_id};

@@ -1,6 +1,7 @@
 // What the rules on a session look at, besides the statement that comes.
 ghost use Rattle.std.specs.Prelude.{◌≡◌, ◌&&◌, ◌||◌, ◌++◌, ◌∷◌, [], Bool, List, false, not};
-ghost use Rattle.cmi5_session.specs.Views.{counts, seen, view_behind, view_of};
+ghost use Rattle.cmi5_session.specs.Counting.{counts};
+ghost use Rattle.cmi5_session.specs.Views.{seen, view_behind, view_of};
 ghost use Rattle.lrs_json.specs.View.{view};
 ghost use Rattle.xapi_format.specs.declared.authority.Authority.TheVariants.{Session};
 ghost use Rattle.cmi5_launch.specs.XapiStatementStatements.{is_target, is_that_id};
@@ -9,10 +10,10 @@ ghost use Rattle.cmi5_launch.specs.XapiStatementStatement.{activity_of};
 ghost use Rattle.cmi5_launch.specs.XapiStatementStored.{StoredStatement as SpecStatement};
 
 use crate::Phase;
-use crate::defined::is_cmi5_defined;
+use crate::defined::says;
 use cmi5_course::Launch;
 use cmi5_launch::names::{COMPLETED, PASSED};
-use cmi5_launch::xapi_statement::{activity_of, registration_of, verb_of};
+use cmi5_launch::xapi_statement::{activity_of, registration_of};
 use lrs_json::Tree;
 use lrs_names::{Id, Iri};
 
@@ -59,7 +60,8 @@ impl<'a> SessionView<'a> {
 
 // Whether that counts behind one statement more.
 fn counts_by_now(before: bool, launch: &Launch, verb: &str, statement: &Tree, voided: bool) -> bool
-    ensures { result ≡ before || (counts launch.now verb.now (view statement.now) && not voided) }
+    ensures { result ≡ before
+        || (counts launch.now.registration launch.now.activity verb.now (view statement.now) && not voided) }
 {
     before || (counts(launch, verb, statement) && !voided)
 }
@@ -86,10 +88,9 @@ pub(crate) fn is_about(activity: &Iri, statement: &Tree) -> bool
 
 // Whether a statement of that verb counts for the launched unit and its registration, whosever it is.
 fn counts(launch: &Launch, verb: &str, statement: &Tree) -> bool
-    ensures { result ≡ counts launch.now verb.now (view statement.now) }
+    ensures { result ≡ counts launch.now.registration launch.now.activity verb.now (view statement.now) }
 {
-    verb_of(statement) == verb
+    says(verb, statement)
         && is_that_id(&launch.registration, registration_of(statement))
         && is_about(&launch.activity, statement)
-        && is_cmi5_defined(statement)
 }

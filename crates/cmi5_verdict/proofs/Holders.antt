@@ -20,7 +20,7 @@ outward_first nodes n next =
     ap (λ k. outward nodes k next) all
 
 -- behind the outermost there is none
-outward_none : (nodes : List Node) (steps : ℕ) → outward nodes steps None ≡ []
+pub outward_none : (nodes : List Node) (steps : ℕ) → outward nodes steps None ≡ []
 outward_none nodes zero = refl
 outward_none nodes (suc steps) = refl
 

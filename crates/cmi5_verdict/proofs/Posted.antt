@@ -10,7 +10,7 @@ use Rattle.std.proofs.lemmas.Option.{slice_get_past}
 use Rattle.cmi5_session.specs.Cmi5LaunchNames.{completed, passed, satisfied, waived}
 use Rattle.cmi5_session.specs.Own.{says}
 use Rattle.cmi5_verdict.specs.Nodes.{SeenEnrolment, activity_of_node}
-use Rattle.cmi5_verdict.specs.Said.{at_positions, counts_for, either, said_among, said_by, said_of, unsaid}
+use Rattle.cmi5_verdict.specs.Said.{counts_for, either, said_among, said_by, said_of, unsaid}
 use Rattle.cmi5_verdict.specs.declared.said.Said.{Said}
 use Rattle.cmi5_verdict.proofs.Spoken.{among_more, among_none, either_assoc, either_unsaid, same_said, unsaid_either}
 use Rattle.lrs_json.specs.View.{view}
@@ -20,6 +20,7 @@ use Rattle.cmi5_session.specs.XapiStatementStatement.{activity_of, registration_
 use Rattle.cmi5_session.specs.XapiStatementStored.{StoredStatement}
 use Rattle.xapi_index.specs.XapiStatementKeysKeys.{has_key}
 use Rattle.xapi_index.specs.XapiStatementKeysKeyKeyTheVariants as key
+use Rattle.xapi_index.specs.Index.{statements_at}
 
 -- ---- the statements at positions
 
@@ -29,21 +30,21 @@ none_before k = omega arith
 stays : (i : ℕ) → i ≡ i + 0
 stays i = omega arith
 
-one_on : (i k : ℕ) → i + 1 + k ≡ i + suc k
+pub one_on : (i k : ℕ) → i + 1 + k ≡ i + suc k
 one_on i k = omega arith
 
 -- none stands at a position past the end
-at_below : (xs : List StoredStatement) (ks : List ℕ) → at_positions xs (below (length xs) ks) ≡ at_positions xs ks
+at_below : (xs : List StoredStatement) (ks : List ℕ) → statements_at xs (below (length xs) ks) ≡ statements_at xs ks
 at_below xs [] = refl
 at_below xs (k ∷ ks) = by_case (cases_lt k (length xs)) (at_below xs ks)
   where
-    by_case : (k < length xs) ⊎ (length xs ≤ k) → at_positions xs (below (length xs) ks) ≡ at_positions xs ks → at_positions xs (below (length xs) (k ∷ ks)) ≡ at_positions xs (k ∷ ks)
+    by_case : (k < length xs) ⊎ (length xs ≤ k) → statements_at xs (below (length xs) ks) ≡ statements_at xs ks → statements_at xs (below (length xs) (k ∷ ks)) ≡ statements_at xs (k ∷ ks)
     by_case (inl within) more =
-        ap (λ b. at_positions xs (cond b (k ∷ below (length xs) ks) (below (length xs) ks))) (lt-ltb k (length xs) within)
+        ap (λ b. statements_at xs (cond b (k ∷ below (length xs) ks) (below (length xs) ks))) (lt-ltb k (length xs) within)
         ∙ ap (λ ys. cons_option (slice_get xs k) ys) more
     by_case (inr past) more =
-        ap (λ b. at_positions xs (cond b (k ∷ below (length xs) ks) (below (length xs) ks))) (le-ltb k (length xs) past)
-        ∙ (more ∙ sym (ap (λ o. cons_option o (at_positions xs ks)) (slice_get_past xs k past)))
+        ap (λ b. statements_at xs (cond b (k ∷ below (length xs) ks) (below (length xs) ks))) (le-ltb k (length xs) past)
+        ∙ (more ∙ sym (ap (λ o. cons_option o (statements_at xs ks)) (slice_get_past xs k past)))
 
 passing_from : (get : ℕ → Option StoredStatement) (p : StoredStatement → Bool) (i : ℕ) (xs : List StoredStatement) → ((k : ℕ) → get (i + k) ≡ slice_get xs k)
     → filter_map get (positions_from p i xs) ≡ filter p xs
@@ -57,39 +58,39 @@ passing_from get p i (x ∷ xs) same =
     by_test false here more = more
 
 -- at the positions of those that pass stand those that pass
-at_passing : (p : StoredStatement → Bool) (xs : List StoredStatement) → at_positions xs (positions_with p xs) ≡ filter p xs
+at_passing : (p : StoredStatement → Bool) (xs : List StoredStatement) → statements_at xs (positions_with p xs) ≡ filter p xs
 at_passing p xs = passing_from (λ m. slice_get xs m) p 0 xs (λ k. ap (λ m. slice_get xs m) (none_before k))
 
 -- ---- what is said at positions, one after another
 
 module _ (e : SeenEnrolment) (all : List StoredStatement) (index : ℕ) where
   at_more : (held : List StoredStatement) (k : ℕ) (ks : List ℕ)
-      → said_among e all index (at_positions held (k ∷ ks)) ≡ either (option_map_or (said_by e all index) (slice_get held k) unsaid) (said_among e all index (at_positions held ks))
-  at_more held k ks = by_place (slice_get held k)
+      → said_among e all index (statements_at held (k ∷ ks)) ≡ either (option_map_or (said_by e all index) (slice_get held k) unsaid) (said_among e all index (statements_at held ks))
+  at_more held k ks = by_item (slice_get held k)
     where
-      by_place : (o : Option StoredStatement)
-          → said_among e all index (cons_option o (at_positions held ks)) ≡ either (option_map_or (said_by e all index) o unsaid) (said_among e all index (at_positions held ks))
-      by_place (Some x) = among_more e all index x (at_positions held ks)
-      by_place None = sym (unsaid_either (said_among e all index (at_positions held ks)))
+      by_item : (o : Option StoredStatement)
+          → said_among e all index (cons_option o (statements_at held ks)) ≡ either (option_map_or (said_by e all index) o unsaid) (said_among e all index (statements_at held ks))
+      by_item (Some x) = among_more e all index x (statements_at held ks)
+      by_item None = sym (unsaid_either (said_among e all index (statements_at held ks)))
 
   -- what is noted so far, and what is said at the positions that are left
   pub position_next : (held : List StoredStatement) (ks : List ℕ) (i : ℕ) (before now whole : Said) → i < length ks
       → now ≡ either before (option_map_or (said_by e all index) (slice_get held (get_or ks i 0)) unsaid)
-      → either before (said_among e all index (at_positions held (drop i ks))) ≡ whole → either now (said_among e all index (at_positions held (drop (i + 1) ks))) ≡ whole
+      → either before (said_among e all index (statements_at held (drop i ks))) ≡ whole → either now (said_among e all index (statements_at held (drop (i + 1) ks))) ≡ whole
   position_next held ks i before now whole less is so_far =
       let told : Said = option_map_or (said_by e all index) (slice_get held (get_or ks i 0)) unsaid in
-      let rest : Said = said_among e all index (at_positions held (drop (i + 1) ks)) in
+      let rest : Said = said_among e all index (statements_at held (drop (i + 1) ks)) in
       ap (λ s. either s rest) is ∙ (either_assoc before told rest
-      ∙ (ap (λ s. either before s) (sym (ap (λ js. said_among e all index (at_positions held js)) (drop_more ks i 0 less) ∙ at_more held (get_or ks i 0) (drop (i + 1) ks))) ∙ so_far))
+      ∙ (ap (λ s. either before s) (sym (ap (λ js. said_among e all index (statements_at held js)) (drop_more ks i 0 less) ∙ at_more held (get_or ks i 0) (drop (i + 1) ks))) ∙ so_far))
 
   pub positions_end : (held : List StoredStatement) (ks : List ℕ) (i : ℕ) (now whole : Said) → length ks ≤ i
-      → either now (said_among e all index (at_positions held (drop i ks))) ≡ whole → now ≡ whole
+      → either now (said_among e all index (statements_at held (drop i ks))) ≡ whole → now ≡ whole
   positions_end held ks i now whole end so_far =
-      sym (ap (λ js. either now (said_among e all index (at_positions held js))) (drop_all i ks end) ∙ (ap (λ s. either now s) (among_none e all index) ∙ either_unsaid now)) ∙ so_far
+      sym (ap (λ js. either now (said_among e all index (statements_at held js))) (drop_all i ks end) ∙ (ap (λ s. either now s) (among_none e all index) ∙ either_unsaid now)) ∙ so_far
 
 -- ---- statements of other registrations say nothing
 
-named : (id : List ℕ) (o : Option (List ℕ)) → is_that_id id o ≡ option_map_or (λ own. bytes_eq own id) o false
+pub named : (id : List ℕ) (o : Option (List ℕ)) → is_that_id id o ≡ option_map_or (λ own. bytes_eq own id) o false
 named id None = refl
 named id (Some own) = refl
 
@@ -126,10 +127,10 @@ among_passing e all index p (x ∷ xs) others = by_test (p x) refl (among_passin
 -- what is said at the positions under the key of the registration is what all say that are held
 pub said_under_key : (e : SeenEnrolment) (all held : List StoredStatement) (index : ℕ) (positions : List ℕ)
     → below (length held) positions ≡ positions_with (has_key (key.Registration e.registration)) held
-    → said_among e all index (at_positions held positions) ≡ said_among e all index held
+    → said_among e all index (statements_at held positions) ≡ said_among e all index held
 said_under_key e all held index positions visible =
     let own : StoredStatement → Bool = has_key (key.Registration e.registration) in
-    ap (λ xs. said_among e all index xs) (sym (at_below held positions) ∙ (ap (λ ks. at_positions held ks) visible ∙ at_passing own held))
+    ap (λ xs. said_among e all index xs) (sym (at_below held positions) ∙ (ap (λ ks. statements_at held ks) visible ∙ at_passing own held))
     ∙ among_passing e all index own held (λ x is. said_elsewhere e all index x (named e.registration (registration_of (view x.received)) ∙ is))
 
 -- ---- what is noted of each node, told otherwise

@@ -88,8 +88,8 @@ added said here index more lt = ⊎_elim there elsewhere (cases_eq here index)
 
 -- where those from the first on are told of
 
-same_place : (first here k : ℕ) → first ≤ here → ((here - first) == k) ≡ (here == (first + k))
-same_place first here k le = ⊎_elim there elsewhere (cases_eq (here - first) k)
+same_index : (first here k : ℕ) → first ≤ here → ((here - first) == k) ≡ (here == (first + k))
+same_index first here k le = ⊎_elim there elsewhere (cases_eq (here - first) k)
   where
     there : here - first ≡ k → ((here - first) == k) ≡ (here == (first + k))
     there e = eq-eqb (here - first) k e ∙ sym (eq-eqb here (first + k) (omega arith))
@@ -100,24 +100,32 @@ same_place first here k le = ⊎_elim there elsewhere (cases_eq (here - first) k
 pub added_from : (said : List Said) (first here k : ℕ) (more : Said) → k < length said → first ≤ here
     → said_of (slice_set said (here - first) (either (said_of said (here - first)) more)) k ≡ either (said_of said k) (if here == (first + k) then more else unsaid)
 added_from said first here k more lt le =
-    added said (here - first) k more lt ∙ ap (λ b. either (said_of said k) (if b then more else unsaid)) (same_place first here k le)
+    added said (here - first) k more lt ∙ ap (λ b. either (said_of said k) (if b then more else unsaid)) (same_index first here k le)
 
 pub before_first : (first here k : ℕ) → here < first → (here == (first + k)) ≡ false
 before_first first here k lt = ne_eqb here (first + k) (λ e. omega arith)
 
 -- ---- what one statement says
 
--- by its verb and whether it stands, and whether it is in the registration, is defined and is about the node
-flag : (v w r d a : Bool) → (if (r && d) && a then v && w else false) ≡ ((v && d) && r) && a && w
-flag true w true true true = refl
-flag true w true true false = refl
-flag true w true false a = refl
-flag true w false true a = refl
-flag true w false false a = refl
-flag false w true true true = refl
-flag false w true true false = refl
-flag false w true false a = refl
-flag false w false d a = refl
+-- by its verb, and whether it is in the registration, is defined and is about the node
+pub flag : (v r d a : Bool) → ((v && d) && r) && a ≡ (if (r && d) && a then v else false)
+flag true true true true = refl
+flag true true true false = refl
+flag true true false a = refl
+flag true false true a = refl
+flag true false false a = refl
+flag false true true true = refl
+flag false true true false = refl
+flag false true false a = refl
+flag false false d a = refl
+
+if_both : (here v w : Bool) → (if here then v && w else false) ≡ (if here then v else false) && w
+if_both true v w = refl
+if_both false v w = refl
+
+-- and whether it stands
+standing : (v w r d a : Bool) → (if (r && d) && a then v && w else false) ≡ ((v && d) && r) && a && w
+standing v w r d a = if_both ((r && d) && a) v w ∙ ap (λ b. b && w) (sym (flag v r d a))
 
 parts : (here : Bool) (verb : List ℕ) (voided : Bool) → (if here then said_with verb voided else unsaid)
     ≡ made (if here then bytes_eq verb waived && not voided else false) (if here then bytes_eq verb completed && not voided else false) (if here then bytes_eq verb passed && not voided else false) (if here then bytes_eq verb satisfied else false)
@@ -136,8 +144,8 @@ spoken e all index s here is =
     let d : Bool = is_cmi5_defined (view s.received) in
     let a : Bool = is_that_id (activity_of_node e index) (activity_of (view s.received)) in
     ap (λ b. if b then said_with verb (is_voided all s) else unsaid) is ∙ (parts ((r && d) && a) verb (is_voided all s)
-    ∙ same_said _ _ _ _ _ _ _ _ (flag (bytes_eq verb waived) kept r d a) (flag (bytes_eq verb completed) kept r d a) (flag (bytes_eq verb passed) kept r d a)
-    (ap (λ b. if (r && d) && a then b else false) (sym (and-true (bytes_eq verb satisfied))) ∙ flag (bytes_eq verb satisfied) true r d a))
+    ∙ same_said _ _ _ _ _ _ _ _ (standing (bytes_eq verb waived) kept r d a) (standing (bytes_eq verb completed) kept r d a) (standing (bytes_eq verb passed) kept r d a)
+    (sym (flag (bytes_eq verb satisfied) r d a) ∙ sym (and-true (((bytes_eq verb satisfied && d) && r) && a))))
 
 -- ---- what all say of each node
 

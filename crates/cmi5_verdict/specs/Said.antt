@@ -1,5 +1,5 @@
 -- What the statements of a registration say of the nodes of a course.
-use Rattle.std.specs.Prelude.{ℕ, ◌&&◌, ◌||◌, Bool, true, false, not, List, filter_map, get_or, slice_get}
+use Rattle.std.specs.Prelude.{ℕ, ◌&&◌, ◌||◌, Bool, true, false, not, List, get_or}
 use Rattle.std.specs.List.{list_any}
 use Rattle.std.specs.Str.{bytes_eq}
 use Rattle.cmi5_course.specs.declared.unit.MoveOn.{MoveOn}
@@ -56,10 +56,6 @@ said_among e all index those = record {
 -- what all of them say of it
 abbrev pub said_in : SeenEnrolment → List StoredStatement → ℕ → Said
 said_in e all index = said_among e all index all
-
--- the statements at these positions, where there are some
-abbrev pub at_positions : List StoredStatement → List ℕ → List StoredStatement
-at_positions statements positions = filter_map (λ at. slice_get statements at) positions
 
 -- what was said of it, where that of each node stands in a list
 abbrev pub said_of : List Said → ℕ → Said

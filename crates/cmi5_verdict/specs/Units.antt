@@ -5,17 +5,10 @@ use Rattle.std.specs.List.{list_any}
 use Rattle.cmi5_course.specs.declared.unit.MoveOn.{MoveOn}
 use Rattle.cmi5_course.specs.declared.unit.MoveOn.TheVariants as move_on
 use Rattle.cmi5_session.specs.Cmi5LaunchNames.{completed, passed, waived}
-use Rattle.cmi5_session.specs.Own.{says}
-use Rattle.lrs_json.specs.Json.{Json}
+use Rattle.cmi5_session.specs.Counting.{counts}
 use Rattle.lrs_json.specs.View.{view}
-use Rattle.cmi5_session.specs.XapiStatementStatements.{is_that_id, is_voided}
-use Rattle.cmi5_session.specs.XapiStatementStatement.{activity_of, registration_of}
+use Rattle.cmi5_session.specs.XapiStatementStatements.{is_voided}
 use Rattle.cmi5_session.specs.XapiStatementStored.{StoredStatement}
-
--- A statement of that verb that cmi5 defines, in that registration and on that activity, whosever it is.
-abbrev pub counts : List ℕ → List ℕ → List ℕ → Json → Bool
-counts registration activity verb j =
-    says verb j && is_that_id registration (registration_of j) && is_that_id activity (activity_of j)
 
 -- It counts among these. A voided one does so only where voided ones are asked for, too.
 abbrev pub counts_among : Bool → List StoredStatement → List ℕ → List ℕ → List ℕ → StoredStatement → Bool

@@ -23,7 +23,7 @@ pub use nodes::{parent_of, unit_in};
 pub use numbers::push_if;
 pub use owing::{owed, owed_by_said};
 pub use said::{Said, add_new};
-pub use statements::Statements;
+pub use statements::{Statements, voided_by};
 pub use units::waived;
 pub use xapi_index;
 pub use xapi_index::xapi_statement_keys;

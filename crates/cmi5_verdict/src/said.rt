@@ -4,13 +4,14 @@ ghost use Rattle.std.specs.Prelude.{replicate, slice_get, slice_set, OnOk};
 ghost use Rattle.std.specs.Option.{option_map_or};
 ghost use Rattle.std.specs.Str.{bytes_eq};
 ghost use Rattle.cmi5_verdict.specs.Nodes.{indices, seen};
-ghost use Rattle.cmi5_verdict.specs.Said.{at_positions, either, meets, said_among, said_by, said_in, said_of};
+ghost use Rattle.cmi5_verdict.specs.Said.{either, meets, said_among, said_by, said_in, said_of};
 ghost use Rattle.cmi5_verdict.specs.Said.{said_with, unsaid};
 ghost use Rattle.cmi5_verdict.specs.Statements.{all_of};
 ghost use Rattle.cmi5_verdict.specs.Units.{moves_on};
 ghost use Rattle.lrs_json.specs.View.{view};
 ghost use Rattle.cmi5_session.specs.XapiStatementStatements.{is_voided};
 ghost use Rattle.cmi5_session.specs.XapiStatementStatement.{verb_of};
+ghost use Rattle.xapi_index.specs.Index.{statements_at};
 
 use crate::names::index_meant;
 use crate::{Enrolment, Statements};
@@ -187,7 +188,7 @@ fn note_positions(
     ensures long { length said.new ≡ length said.old }
     ensures noted { OnOk result ((k : ℕ) → k < length said.old → first + k < 2 ^ 64 → said_of said.new k
         ≡ either (said_of said.old k) (said_among (seen enrolment.now) (all_of statements.now) (first + k)
-        (at_positions statements.now.held.now.held positions.now))) }
+        (statements_at statements.now.held.now.held positions.now))) }
 {
     for position in positions {
         note_at(

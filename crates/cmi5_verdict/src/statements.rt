@@ -52,8 +52,8 @@ fn voids(id: &Id, statement: &StoredStatement) -> bool
     is_that_id(id, voided_by(statement))
 }
 
-// The id of the statement that this one voids.
-fn voided_by(statement: &StoredStatement) -> Option<Id>
+/// The id of the statement that this one voids.
+pub fn voided_by(statement: &StoredStatement) -> Option<Id>
     ensures { result ≡ voided_by statement.now }
 {
     if statement.is_voiding() {

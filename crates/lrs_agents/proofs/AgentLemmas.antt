@@ -4,6 +4,7 @@ use Rattle.lrs_json.specs.Json.{Json, null, boolean, number, string, array, obje
 use Rattle.lrs_json.specs.Find.{find}
 use Rattle.lrs_json.specs.View.{view, elements_of}
 use Rattle.lrs_json.specs.declared.tree.Tree.{Tree}
+use Rattle.lrs_json.specs.Parts.{text_in}
 use Rattle.std.proofs.lemmas.Bool.{false≢true}
 use Rattle.std.proofs.lemmas.Grind.{common_steps}
 use Rattle.std.specs.Cmp.{first_so, second_so}
@@ -11,7 +12,7 @@ use Rattle.std.specs.Option.{option_map_or}
 use Rattle.lrs_agents.specs.Agents.{mailbox_faults, sha1_faults, openid_faults, account_faults, is_mailbox, is_sha1, is_account, identifier_count, identifier_faults, is_agent, agent_faults, faults_of_agents, faults_of_members, is_group, group_faults}
 use Rattle.lrs_agents.specs.Identifiers.{or_else, account_of, identifier_of}
 use Rattle.lrs_names.specs.Iris.{is_iri, iri_faults}
-use Rattle.lrs_names.specs.Members.{is_string_that, is_string, text_of, has_member, has_member_that, faults_of_member, text_under, has_only}
+use Rattle.lrs_names.specs.Members.{is_string_that, is_string, has_member, has_member_that, faults_of_member, text_under, has_only}
 use Rattle.lrs_agents.specs.Readings.{IsAgentOf, AreAgentsOf}
 use Rattle.lrs_agents.specs.declared.agents.Agent.{Agent}
 use Rattle.lrs_agents.specs.declared.identifiers.Ifi.{Ifi}
@@ -57,12 +58,12 @@ none_left xs ys e = left_none (least xs) (least ys) (sym (least-append xs ys) �
 pub none_right : (xs ys : List ℕ) → least (xs ++ ys) ≡ None → least ys ≡ None
 none_right xs ys e = right_none (least xs) (least ys) (sym (least-append xs ys) ∙ e)
 
-is_met : (met : Bool) (rule : ℕ) → least (unless met rule) ≡ None → met ≡ true
+pub is_met : (met : Bool) (rule : ℕ) → least (unless met rule) ≡ None → met ≡ true
 is_met true rule e = refl
 is_met false rule e = cc e
 
 -- a member that must be a string is missing where it has no text
-no_text : (test : List ℕ → Bool) (rule : ℕ) (o : Option Json) → least (option_map_or (λ v. unless (is_string_that test v) rule) o []) ≡ None → option_and_then text_of o ≡ None → is_some o ≡ false
+no_text : (test : List ℕ → Bool) (rule : ℕ) (o : Option Json) → least (option_map_or (λ v. unless (is_string_that test v) rule) o []) ≡ None → option_and_then text_in o ≡ None → is_some o ≡ false
 no_text test rule None none without = refl
 no_text test rule (Some null) none without = cc none
 no_text test rule (Some (boolean b)) none without = cc none
@@ -71,7 +72,7 @@ no_text test rule (Some (string s)) none without = cc without
 no_text test rule (Some (array js)) none without = cc none
 no_text test rule (Some (object ms)) none without = cc none
 
-no_openid : (o : Option Json) → least (option_map_or openid_faults o []) ≡ None → option_and_then text_of o ≡ None → is_some o ≡ false
+no_openid : (o : Option Json) → least (option_map_or openid_faults o []) ≡ None → option_and_then text_in o ≡ None → is_some o ≡ false
 no_openid None none without = refl
 no_openid (Some null) none without = cc none
 no_openid (Some (boolean b)) none without = cc none
@@ -81,7 +82,7 @@ no_openid (Some (array js)) none without = cc none
 no_openid (Some (object ms)) none without = cc none
 
 -- a member that is a string has a text
-some_text : (o : Option Json) → option_map_or is_string o false ≡ true → option_and_then text_of o ≡ None → ⊥
+some_text : (o : Option Json) → option_map_or is_string o false ≡ true → option_and_then text_in o ≡ None → ⊥
 some_text None is without = false≢true is
 some_text (Some null) is without = false≢true is
 some_text (Some (boolean b)) is without = false≢true is
@@ -90,7 +91,7 @@ some_text (Some (string s)) is without = cc without
 some_text (Some (array js)) is without = false≢true is
 some_text (Some (object ms)) is without = false≢true is
 
-some_iri : (o : Option Json) → is_some o ≡ true → least (option_map_or iri_faults o []) ≡ None → option_and_then text_of o ≡ None → ⊥
+some_iri : (o : Option Json) → is_some o ≡ true → least (option_map_or iri_faults o []) ≡ None → option_and_then text_in o ≡ None → ⊥
 some_iri None stands none without = false≢true stands
 some_iri (Some v) stands none without = false≢true (sym (no_text is_iri 6 (Some v) none without) ∙ stands)
 

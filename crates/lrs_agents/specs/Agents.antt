@@ -106,7 +106,7 @@ group_faults j = unless (is_group j) 12 ++ identifier_faults j ++ faults_of_memb
 -- ---- either of them
 
 -- The rules that a value breaks where an agent or a group is asked for: its `objectType` says which it is, an agent
--- if it is missing. A value of another kind breaks this rule of its place, and is looked at no further.
+-- if it is missing. A value of another kind breaks the rule given here, and is looked at no further.
 abbrev pub faults_of_kind : ℕ → Option Json → Json → List ℕ
 faults_of_kind rule None j = agent_faults j
 faults_of_kind rule (Some kind) j =

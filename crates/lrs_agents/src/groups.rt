@@ -58,7 +58,7 @@ impl Group {
     }
 }
 
-/// The least rule that the tree breaks where an agent or a group is asked for, which its `objectType` decides; `place`
+/// The least rule that the tree breaks where an agent or a group is asked for, which its `objectType` decides; `rule`
 /// if it is neither.
 #[tactic(auto, unfolding(crate::specs::Agents::agent_or_group_faults))]
 pub fn broken_agent_or_group(tree: &Tree, rule: u8) -> Option<u8>

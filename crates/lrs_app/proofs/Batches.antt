@@ -41,7 +41,7 @@ use Rattle.xapi_statement.specs.Statements.{held_under}
 use Rattle.xapi_rules.specs.Rules.{broken_rule, is_voiding}
 use Rattle.xapi_statement.specs.Statement.{is_too_long, own_id}
 use Rattle.xapi_statement.specs.Stored.{StoredStatement}
-use Rattle.lrs_app.specs.Load.{post_answer}
+use Rattle.lrs_app.specs.Load.{GoesOnLoading, post_answer}
 use Rattle.lrs_app.specs.LoadSteps.{IsMet, SaysOfBatch}
 use Rattle.lrs_app.proofs.Readable.{readable}
 
@@ -127,7 +127,7 @@ with_all : (supply : Supply) (trees : List Tree) → AllByRecursion (λ (t : Tre
 with_all supply [] all = tt
 with_all supply (t ∷ ts) all = (all.0, with_all (supply_behind supply (own_id (view t))) ts all.1)
 
-few_enough : (n : ℕ) → n ≤ 100 → nat_lt 500 n ≡ false
+few_enough : (n : ℕ) → n ≤ BATCH → nat_lt 500 n ≡ false
 few_enough n few = grind (arith, common_steps)
 
 sound_form : (trees : List Tree) → length trees ≤ BATCH → AreSoundStatements trees → are_distinct (given_ids trees) ≡ true → refused_batch trees ≡ None
@@ -135,12 +135,7 @@ sound_form trees few sound distinct = rw (few_enough (length trees) few, none_lo
 
 -- ---- what is said
 
--- it is no refusal
-abbrev IsCalm : Answered → Type 0
-IsCalm (said.Refused r) = ⊥
-IsCalm other = Unit {0}
-
-calm_says : (s : Answered) (entry : Option Entry) → IsCalm s → SaysOfBatch s entry
+calm_says : (s : Answered) (entry : Option Entry) → GoesOnLoading s → SaysOfBatch s entry
 calm_says said.Kept entry calm = tt
 calm_says said.Same entry calm = tt
 calm_says (said.Shown text through) entry calm = tt
@@ -150,7 +145,7 @@ calm_says (said.Refused r) entry calm = absurd calm
 abbrev Says : Answer → Type 0
 Says a = SaysOfBatch a.said a.entry
 
-by_refusal : (o : Option Refusal) (nothing : Bool) (e : Entry) (s : Answered) (limit offset : ℕ) → MayMeet o → IsCalm s
+by_refusal : (o : Option Refusal) (nothing : Bool) (e : Entry) (s : Answered) (limit offset : ℕ) → MayMeet o → GoesOnLoading s
     → Says (answer_of limit offset (outcome_by (option_or (option_map refused o) (when nothing s)) e s))
 by_refusal (Some r) nothing e s limit offset may calm = (may, refl)
 by_refusal None true e s limit offset may calm = calm_says s None calm

@@ -1,6 +1,6 @@
 -- From one batch to the next.
 use Rattle.std.proofs.Common.{◌≡◌, ◌+◌, ◌<◌, ◌-◌, ℕ, suc, true, false, List, [], ◌∷◌, ◌++◌, map, Option, Some, None, Result, Ok, Err, IfErr, append-nil, append_assoc, arith, refl, sym, ap, ◌∙◌, subst, inl, inr, ⊎_elim}
-use Rattle.std.specs.Prelude.{MatchResult, OnOk}
+use Rattle.std.specs.Prelude.{MatchResult}
 use Rattle.lrs_disk.specs.Readings.{AddsReading}
 use Rattle.lrs_disk.specs.declared.disk.Disk as disks
 use Rattle.lrs_generator.specs.Generated.{batch, batch_count}
@@ -14,6 +14,7 @@ use Rattle.lrs_hall.specs.LrsMachineActs.{Acts, Receipt}
 use Rattle.lrs_hall.specs.LrsMachineDesk.{Desk, history}
 use Rattle.lrs_hall.specs.LrsMachineLine.{Record, in_doubt}
 use Rattle.lrs_hall.specs.LrsMachinePrefixesProofs.{stops_then}
+use Rattle.lrs_hall.proofs.Conversing.{reads_none}
 use Rattle.lrs_names.specs.declared.draw.Draw.{Draw}
 use Rattle.lrs_record.specs.declared.entry.Entry.{Entry}
 use Rattle.lrs_replies.specs.declared.answered.Answered.{Answered}
@@ -24,7 +25,7 @@ use Rattle.lrs_replies.specs.declared.reply.Trouble.TheVariants as trouble
 use Rattle.xapi_pages.specs.Listings.{listed_of_all}
 use Rattle.lrs_app.specs.Load.{EndsLoad, GoesOnLoading, LoadsFrom, StopsLoading, post_answer}
 use Rattle.lrs_app.specs.LoadSteps.{EndsBatch, EndsNext, EndsPosted, GoesOrStays, IsLoaded, IsOfBatch, LoadsSoFar, SaysOfBatch, TakesBatch, TakesNext}
-use Rattle.lrs_app.specs.Steps.{GoesOn, HasPutCause, ending_of_trouble}
+use Rattle.lrs_app.specs.Steps.{Continues, HasPutCause, ending_of_trouble}
 use Rattle.lrs_app.proofs.Opened.{answered_cause, doubtful_one, kept, trouble_cause, troubled_doubts, unchanged}
 use Rattle.lrs_app.proofs.Openings.{alike_both}
 use Rattle.lrs_console.specs.declared.ending.Ending.{Ending}
@@ -96,11 +97,6 @@ module _ {D : Type 0} (d : disks.Ghosts D) (a : Answer) (receipt : Receipt) (old
 pub known_said : (a : Answer) (receipt : Receipt) (old new : List Record) (s : Answered) → Acts a (Ok s) receipt old new → SaysOfBatch a.said a.entry → IsOfBatch s
 known_said a receipt old new s acts known = subst (λ (x : Answered). IsOfBatch x) (sym acts.tells.0) (said_of a.said a.entry known)
 
--- what holds anyway
-pub on_ok : {A E P : Type 0} (r : Result A E) → P → OnOk r P
-on_ok (Ok a) holds = holds
-on_ok (Err e) holds = tt
-
 -- ---- how many are left
 
 pub from_first : (j left all : ℕ) → j ≡ 0 → left ≡ all → j + left ≡ all
@@ -119,7 +115,7 @@ one_more j k left all whole some is = omega (arith, whole, some, is)
 
 -- a batch that was made, with its reading and its draw
 pub posted_next : {D : Type 0} (d : disks.Ghosts D) {U : Type 0} (seed n j : ℕ) (old new : Desk D) (draws draws_now : Draws) (draw : Draw) (before now : Option (List ℕ)) (clock : ℕ) (trees : List Tree) (r : Result U Ending)
-    → draw ≡ draw_at draws → draws_now ≡ next_draws draws → AddsReading before now clock → map view trees ≡ batch seed n j → GoesOn d old new
+    → draw ≡ draw_at draws → draws_now ≡ next_draws draws → AddsReading before now clock → map view trees ≡ batch seed n j → Continues d old new
     → MatchResult r (λ _. TakesBatch d (post_answer old.limit (history old) clock draw trees) old new) (λ end. EndsBatch d (post_answer old.limit (history old) clock draw trees) old new end)
     → MatchResult r (λ _. TakesNext d seed n j old new draws draws_now before now) (λ end. EndsNext d seed n j old new draws before now end)
 posted_next d seed n j old new draws draws_now draw before now clock trees (Ok u) drawn moved reads made goes takes = record {
@@ -150,10 +146,6 @@ module _ {D : Type 0} (d : disks.Ghosts D) (s seed m n j : ℕ) (old new : Desk 
 
 -- ---- the clock
 
-reads_none : (x : Option (List ℕ)) → AddsReadings x x []
-reads_none None = tt
-reads_none (Some a) = sym (append-nil a)
-
 reads_more : (x y z : Option (List ℕ)) (ks : List ℕ) (k : ℕ) → AddsReadings x y ks → AddsReading y z k → AddsReadings x z (ks ++ k ∷ [])
 reads_more x y None ks k first more = tt
 reads_more x None (Some c) ks k first more = absurd more
@@ -163,8 +155,8 @@ reads_more (Some a) (Some b) (Some c) ks k first more = more ∙ ap (λ (l : Lis
 -- ---- from one to the next
 
 module _ {D : Type 0} (d : disks.Ghosts D) where
-  goes_then : (old mid new : Desk D) → GoesOrStays d old mid → GoesOn d mid new → GoesOn d old new
-  goes_then old mid new (inl same) second = subst (λ (x : Desk D). GoesOn d x new) same second
+  goes_then : (old mid new : Desk D) → GoesOrStays d old mid → Continues d mid new → Continues d old new
+  goes_then old mid new (inl same) second = subst (λ (x : Desk D). Continues d x new) same second
   goes_then old mid new (inr first) second =
       let early = first.later in
       let late = second.later in

@@ -20,7 +20,7 @@ use Rattle.lrs_app.specs.Disks.{Holds, HoldsIn, LeavesUnopened, taken_now}
 use Rattle.lrs_app.specs.LoadSteps.{ClosesReading, GoesOrStays, IsLoaded}
 use Rattle.lrs_app.specs.Load.{LoadsFrom}
 use Rattle.lrs_app.specs.Run.{HasEndingCause, LoadEnds}
-use Rattle.lrs_app.specs.Steps.{GoesOn, HasPutCause, IsOpened}
+use Rattle.lrs_app.specs.Steps.{Continues, HasPutCause, IsOpened}
 use Rattle.lrs_app.proofs.Opened.{doubtful}
 use Rattle.lrs_app.proofs.Openings.{still_goes, still_told, stops_from, stops_since, told_on}
 use Rattle.lrs_app.proofs.Taking.{store_of}
@@ -34,11 +34,11 @@ module _ {D : Type 0} (d : disks.Ghosts D) (counts_now : (x : D) (t : ℕ) (c : 
     (seed n : ℕ) (draws : Draws) (before now : Option (List ℕ)) (end : Ending) (loaded : IsLoaded d seed n desk mid draws before now end)
     (number : ℕ) (count : number ≡ length (history mid)) (passed : d.time mid.disk ≤ d.time disk) (legal : IsLegal mid.limit (history mid))
     (stops : ForSome (d.told mid.disk) (λ _. LeavesOnly d.time d.image_since mid.disk disk (HoldsPrefix mid.limit (sure mid.line) (history mid)))) where
-  goes_on : GoesOrStays d desk mid → GoesOn d desk mid
-  goes_on (inl same) = subst (λ (x : Desk D). GoesOn d desk x) (sym same) (still_goes d counts_now only_now desk opened)
+  goes_on : GoesOrStays d desk mid → Continues d desk mid
+  goes_on (inl same) = subst (λ (x : Desk D). Continues d desk x) (sym same) (still_goes d counts_now only_now desk opened)
   goes_on (inr on) = on
 
-  on : GoesOn d desk mid
+  on : Continues d desk mid
   on = goes_on loaded.goes
 
   legal_here : IsLegal desk.limit (history mid)

@@ -27,7 +27,7 @@ use Rattle.lrs_console.specs.Asking.{with_id, HasInputCause, IsNotTaken, IsTaken
 use Rattle.lrs_app.specs.ClosingSteps.{ClosesTaken, StopsFrom}
 use Rattle.lrs_app.specs.Disks.{Holds, HoldsIn, LeavesFinal, taken_now}
 use Rattle.lrs_app.specs.Run.{EndsOpened}
-use Rattle.lrs_app.specs.Steps.{DoubtsOnly, GoesOn, IsOpened, Submits, HasPutCause, ending_of_trouble}
+use Rattle.lrs_app.specs.Steps.{DoubtsOnly, Continues, IsOpened, Submits, HasPutCause, ending_of_trouble}
 use Rattle.lrs_app.proofs.Openings.{stops_from, told_on}
 use Rattle.lrs_console.specs.declared.ending.Ending.{Ending}
 use Rattle.lrs_console.specs.declared.ending.Ending.TheVariants as ending
@@ -243,7 +243,7 @@ doubtful told limit h e (bytes, tells, (before, last, split, stands)) =
     ⊎_elim (λ s. inl (bytes, tells, subst (λ (p : List (List ℕ)). Stands bytes limit p) (sym fronts) s)) (λ s. inr (bytes, tells, s)) stands
 
 module _ {D : Type 0} (d : disks.Ghosts D) (counts_now : (x : D) (t : ℕ) (c : List ℕ) → t ≤ d.time x → d.image x c → d.image_since x t c)
-    (only_now : (x : D) (c : List ℕ) → d.image_since x (d.time x) c → d.image x c) (desk mid : Desk D) (disk : D) (opened : IsOpened d desk) (on : GoesOn d desk mid)
+    (only_now : (x : D) (c : List ℕ) → d.image_since x (d.time x) c → d.image x c) (desk mid : Desk D) (disk : D) (opened : IsOpened d desk) (on : Continues d desk mid)
     (n : ℕ) (count : n ≡ length (history mid)) (passed : d.time mid.disk ≤ d.time disk) (legal : IsLegal mid.limit (history mid))
     (stops : ForSome (d.told mid.disk) (λ _. LeavesOnly d.time d.image_since mid.disk disk (HoldsPrefix mid.limit (sure mid.line) (history mid)))) where
   legal_here : IsLegal desk.limit (history mid)

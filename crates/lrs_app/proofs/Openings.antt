@@ -18,7 +18,7 @@ use Rattle.lrs_hall.specs.LrsMachinePrefixesProofs.{prefix_less}
 use Rattle.lrs_hall.proofs.Lines.{begins_length, begins_self, begins_take, sure_begins}
 use Rattle.lrs_app.specs.ClosingSteps.{StopsFrom}
 use Rattle.lrs_app.specs.Disks.{AnyStopLeaves, LeavesFinal, taken_now}
-use Rattle.lrs_app.specs.Steps.{DoubtsOnly, GoesOn, IsOpened}
+use Rattle.lrs_app.specs.Steps.{DoubtsOnly, Continues, IsOpened}
 use Rattle.lrs_console.specs.declared.ending.Ending.{Ending}
 
 -- ---- the line of an opening
@@ -97,7 +97,7 @@ prefix_whole limit least h c le held =
 module _ {D : Type 0} (d : disks.Ghosts D) (counts_now : (x : D) (t : ℕ) (c : List ℕ) → t ≤ d.time x → d.image x c → d.image_since x t c)
     (only_now : (x : D) (c : List ℕ) → d.image_since x (d.time x) c → d.image x c) where
   -- an open desk that is left alone
-  pub still_goes : (desk : Desk D) → IsOpened d desk → GoesOn d desk desk
+  pub still_goes : (desk : Desk D) → IsOpened d desk → Continues d desk desk
   still_goes desk opened =
       let all = opened_sure d desk opened in
       record {
@@ -111,7 +111,7 @@ module _ {D : Type 0} (d : disks.Ghosts D) (counts_now : (x : D) (t : ℕ) (c : 
       }
 
   -- acts on an open desk, and its closing
-  pub stops_from : (desk mid : Desk D) (disk : D) → IsOpened d desk → GoesOn d desk mid
+  pub stops_from : (desk mid : Desk D) (disk : D) → IsOpened d desk → Continues d desk mid
       → ForSome (d.told mid.disk) (λ _. LeavesOnly d.time d.image_since mid.disk disk (HoldsPrefix mid.limit (sure mid.line) (history mid)))
       → StopsFrom d desk disk (history mid)
   stops_from desk mid disk opened on closing told is =

@@ -4,7 +4,7 @@ use Rattle.std.specs.Fmt.{decimal}
 use Rattle.std.specs.Prelude.{if◌then◌else◌}
 use Rattle.std.proofs.lemmas.Str.{IsUtf8-append, IsUtf8-from_ascii}
 use Rattle.std.proofs.lemmas.Fmt.{IsAscii-decimal}
-use Rattle.lrs_fields.proofs.Words.{IsUtf8-small}
+use Rattle.lrs_json.proofs.SmallBytes.{IsUtf8-small}
 use Rattle.lrs_generator.specs.Generated.{actor_json, id_at, id_json, is_referring, is_voiding, number_at, object_json, reference_json, statement_json, verb_iri}
 use Rattle.lrs_json.specs.Depth.{depth}
 use Rattle.lrs_json.specs.Fits.{Fits, IsReadable}

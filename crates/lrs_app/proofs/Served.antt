@@ -1,5 +1,5 @@
 -- What a store is that several workers have served, once it was closed.
-use Rattle.std.proofs.Common.{suc, ◌≡◌, ◌≢◌, ◌<◌, ◌≤◌, ◌+◌, ◌∷◌, [], ℕ, List, length, map, Bool, true, false, Option, Some, IfSome, refl, sym, ap, ◌∙◌, subst, inl, inr, ⊎_elim, arith}
+use Rattle.std.proofs.Common.{suc, ◌≡◌, ◌≢◌, ◌<◌, ◌≤◌, ◌+◌, ◌∷◌, [], ℕ, List, length, map, true, false, Option, IfSome, refl, sym, ap, ◌∙◌, subst, inl, inr, ⊎_elim, arith}
 use Rattle.std.specs.List.{AllByRecursion, Any}
 use Rattle.std.specs.Option.{ForSome}
 use Rattle.lrs_disk.specs.Disk.{LeavesOnly}
@@ -11,23 +11,22 @@ use Rattle.lrs_journal.specs.Store.{Stands}
 use Rattle.lrs_record.specs.Entries.{written_entry}
 use Rattle.lrs_hall.specs.LrsHistoryHistory.{IsLegal}
 use Rattle.lrs_record.specs.declared.entry.Entry.{Entry}
-use Rattle.lrs_hall.specs.LrsMachineActs.{Receipt}
 use Rattle.lrs_hall.specs.LrsMachineDesk.{Desk, HoldsPrefix, IsStoreOf, KeepsLine, LeavesStore, OpensOnly, history}
 use Rattle.lrs_hall.specs.LrsMachineLine.{Record, entries, in_doubt, opened_line, sure}
 use Rattle.lrs_hall.specs.Laws.{IsKept}
 use Rattle.lrs_hall.specs.Serving.{AreWithin, EndsServing, Tide, all_receipts, tide_at}
 use Rattle.lrs_hall.specs.Talks.{Talk}
-use Rattle.lrs_hall.specs.Workers.{AreStints, ServesDoors, ServesNone, Stint, end_of, end_with}
+use Rattle.lrs_hall.specs.Workers.{AreStints, ServesDoors, Stint, end_of, end_with}
 use Rattle.lrs_hall.specs.declared.serving.ServeEnd.{ServeEnd}
 use Rattle.lrs_hall.specs.declared.serving.ServeEnd.TheVariants as serve
 use Rattle.lrs_hall.proofs.Lines.{begins_self, entries_begin}
 use Rattle.lrs_hall.proofs.Once.{keeps_promises}
 use Rattle.lrs_app.specs.ClosingSteps.{StopsFrom}
 use Rattle.lrs_app.specs.Disks.{Holds, HoldsIn, LeavesFinal, taken_now}
-use Rattle.lrs_app.specs.Service.{Doors, HadDoors, HasNoDoor, HoldsAfter, HoldsServed, ending_of_serving, receipts_of_all}
-use Rattle.lrs_app.specs.ServeSteps.{ClosesDoorless, ClosesNobody, ClosesServed, ServesDesk, ServesHad, ServesOpened}
+use Rattle.lrs_app.specs.Service.{Doors, HadDoors, HoldsAfter, HoldsServed, ending_of_serving, receipts_of_all}
+use Rattle.lrs_app.specs.ServeSteps.{ServesDesk, ServesHad, ServesOpened}
 use Rattle.lrs_app.specs.Run.{HasEndingCause, HasLobbyCause, ServesDisk}
-use Rattle.lrs_app.specs.Steps.{GoesOn, IsOpened}
+use Rattle.lrs_app.specs.Steps.{Continues, IsOpened}
 use Rattle.lrs_app.proofs.Alone.{alone_serves}
 use Rattle.lrs_app.proofs.Opened.{closed_final}
 use Rattle.lrs_app.proofs.Openings.{leaves_since, opened_records, opened_settled, still_told, stops_from, stops_since, told_on}
@@ -79,7 +78,7 @@ promises now since later limit line opened start end connections seed n (s ∷ s
 module _ {D : Type 0} (d : disks.Ghosts D) (counts_now : (x : D) (t : ℕ) (c : List ℕ) → t ≤ d.time x → d.image x c → d.image_since x t c)
     (only_now : (x : D) (c : List ℕ) → d.image_since x (d.time x) c → d.image x c) (since_later : (x : D) (t u : ℕ) (c : List ℕ) → t ≤ u → d.image_since x u c → d.image_since x t c)
     (desk mid : Desk D) (disk : D) (address : List ℕ) (workers connections : ℕ) (seed : List ℕ) (before after : Doors) (talks : List (List Talk)) (n : ℕ) (end : Ending)
-    (opened : IsOpened d desk) (on : GoesOn d desk mid) (count : n ≡ length (history mid)) (legal : IsLegal mid.limit (history mid))
+    (opened : IsOpened d desk) (on : Continues d desk mid) (count : n ≡ length (history mid)) (legal : IsLegal mid.limit (history mid))
     (within : AreWithin (tide_at d.fault_count d.time desk.disk) (tide_at d.fault_count d.time mid.disk) (receipts_of_all talks)) (grown : d.fault_count desk.disk ≤ d.fault_count mid.disk)
     (risen : d.fault_count mid.disk ≤ d.fault_count disk) (passed : d.time mid.disk ≤ d.time disk)
     (stops : ForSome (d.told mid.disk) (λ _. LeavesOnly d.time d.image_since mid.disk disk (HoldsPrefix mid.limit (sure mid.line) (history mid))))

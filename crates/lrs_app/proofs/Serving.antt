@@ -1,7 +1,6 @@
 -- From the conversations of doors to what serve does.
-use Rattle.std.proofs.Common.{suc, ◌≡◌, ◌≢◌, ◌<◌, ◌≤◌, ◌+◌, ◌-◌, ◌^◌, min, ◌++◌, ◌∷◌, [], ℕ, List, drop, length, map, Bool, true, false, Option, Some, IfSome, option_map, take, refl, sym, ap, ◌∙◌, subst, inl, inr, ⊎_elim, arith, All}
-use Rattle.std.specs.List.{AllByRecursion, Any}
-use Rattle.std.specs.Option.{ForSome}
+use Rattle.std.proofs.Common.{suc, ◌≡◌, ◌≢◌, ◌<◌, ◌≤◌, ◌+◌, ◌-◌, ◌^◌, min, ◌++◌, ◌∷◌, [], ℕ, List, drop, length, map, Bool, true, false, Option, Some, option_map, take, refl, sym, ap, ◌∙◌, subst, inl, inr, ⊎_elim, arith, All}
+use Rattle.std.specs.List.{AllByRecursion}
 use Rattle.std.specs.Prelude.{slice_get}
 use Rattle.std.proofs.lemmas.List.{drop_all}
 use Rattle.std.proofs.Math.Nat.{min-eq_left}
@@ -10,27 +9,23 @@ use Rattle.lrs_disk.specs.Door.{DoorState, IsFresh}
 use Rattle.lrs_disk.specs.Faults.{Rises}
 use Rattle.lrs_disk.specs.Lobby.{CountsFaults, DoorsAsked}
 use Rattle.lrs_disk.specs.declared.disk.Disk as disks
-use Rattle.lrs_journal.specs.Journal.{IsSynced, TellsAlike}
-use Rattle.lrs_journal.specs.Store.{Stands}
-use Rattle.lrs_record.specs.Entries.{written_entry}
 use Rattle.lrs_record.specs.declared.entry.Entry.{Entry}
-use Rattle.lrs_hall.specs.LrsHistoryHistory.{IsLegal}
 use Rattle.lrs_hall.specs.LrsMachineActs.{Receipt}
-use Rattle.lrs_hall.specs.LrsMachineDesk.{Desk, HoldsPrefix, IsOnDisk, IsStoreOf, KeepsLine, LeavesStore, OpensOnly, history}
-use Rattle.lrs_hall.specs.LrsMachineLine.{BeginsWith, Record, entries, in_doubt, opened_line, opening_record, sure}
+use Rattle.lrs_hall.specs.LrsMachineDesk.{Desk, HoldsPrefix, IsOnDisk, history}
+use Rattle.lrs_hall.specs.LrsMachineLine.{BeginsWith, Record, opened_line, opening_record, sure}
 use Rattle.lrs_hall.specs.LrsMachineOrigin.{ComesFrom, IsOfOrigin}
 use Rattle.lrs_hall.specs.LrsMachineOpeningDeskRefused.{DeskRefused}
 use Rattle.lrs_hall.specs.LrsMachineOpeningDeskRefusedTheVariants as refused
-use Rattle.lrs_hall.specs.Serving.{AreWithin, IsNotBelow, IsWithin, Tide, all_receipts, tide_at}
+use Rattle.lrs_hall.specs.Serving.{AreWithin, IsNotBelow, IsWithin, Tide, all_receipts}
 use Rattle.lrs_hall.specs.Talks.{Talk}
-use Rattle.lrs_hall.specs.Workers.{HasSameOpening, ServesAll, ServesDoors}
+use Rattle.lrs_hall.specs.Workers.{HasSameOpening, ServesAll}
 use Rattle.lrs_hall.specs.declared.serving.ServeEnd.{ServeEnd}
 use Rattle.lrs_hall.specs.declared.serving.ServeEnd.TheVariants as serve
 use Rattle.lrs_hall.proofs.Lines.{begins_self, length_take}
 use Rattle.lrs_app.specs.Disks.{Holds, LeavesUnopened, Taken}
 use Rattle.lrs_app.specs.Service.{CountsOn, Doors, HadDoors, HasNoDoor, HoldsAfter, RoseSince, ending_of_serving, receipts_of_all, responses_of}
 use Rattle.lrs_app.specs.Run.{HasEndingCause, HasLobbyCause, ServesDisk}
-use Rattle.lrs_app.specs.Steps.{GoesOn, IsOpened, ending_of}
+use Rattle.lrs_app.specs.Steps.{Continues, IsOpened, ending_of}
 use Rattle.lrs_app.proofs.Openings.{opened_sure}
 use Rattle.lrs_console.specs.declared.ending.Ending.{Ending}
 use Rattle.lrs_console.specs.declared.ending.Ending.TheVariants as ending
@@ -168,7 +163,7 @@ counts_since first begins now talks since counts =
 -- What several workers make of a desk that was just opened, by what its type keeps of the opening. Its disk was at the
 -- opening's end.
 pub went_on : {D : Type 0} (d : disks.Ghosts D) (desk mid : Desk D) → IsOpened d desk → desk.opened ≡ length (history desk) → desk.origin ≡ desk.disk → HasSameOpening desk mid
-    → BeginsWith desk.line mid.line → d.time desk.disk ≤ d.time mid.disk → IsOfOrigin d.told d.time d.image_since mid → GoesOn d desk mid
+    → BeginsWith desk.line mid.line → d.time desk.disk ≤ d.time mid.disk → IsOfOrigin d.told d.time d.image_since mid → Continues d desk mid
 went_on {D} d desk mid opened count origin same begins later is =
     let comes = subst (λ (on : D). ComesFrom d.told d.time d.image_since mid.limit mid.opened (history mid) on mid.disk) (same.origin ∙ origin) is in
     let all = opened_sure d desk opened in

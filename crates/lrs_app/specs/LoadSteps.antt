@@ -18,7 +18,7 @@ use Rattle.lrs_replies.specs.declared.answered.Refusal.TheVariants as refusal
 use Rattle.lrs_app.specs.ClosingSteps.{StopsFrom}
 use Rattle.lrs_app.specs.Disks.{LeavesLoaded, taken_now}
 use Rattle.lrs_app.specs.Load.{GoesOnLoading, LoadsFrom, StopsLoading, post_answer}
-use Rattle.lrs_app.specs.Steps.{DoubtsOnly, GoesOn, HasPutCause}
+use Rattle.lrs_app.specs.Steps.{DoubtsOnly, Continues, HasPutCause}
 use Rattle.lrs_console.specs.declared.ending.Ending.{Ending}
 use Rattle.lrs_console.specs.declared.ending.Ending.TheVariants as ending
 
@@ -63,7 +63,7 @@ pub record TakesNext {D : Type 0} (d : disks.Ghosts D) (seed n j : ℕ) (old new
   pub made : map view trees ≡ batch seed n j
   pub takes : TakesBatch d (post_answer old.limit (history old) clock (draw_at draws) trees) old new
   pub draws_on : draws_now ≡ next_draws draws
-  pub goes : GoesOn d old new
+  pub goes : Continues d old new
 
 -- It was posted, and the loading ends there.
 pub record EndsPosted {D : Type 0} (d : disks.Ghosts D) (seed n j : ℕ) (old new : Desk D) (draws : Draws)
@@ -73,7 +73,7 @@ pub record EndsPosted {D : Type 0} (d : disks.Ghosts D) (seed n j : ℕ) (old ne
   pub trees : List Tree
   pub made : map view trees ≡ batch seed n j
   pub stops : EndsBatch d (post_answer old.limit (history old) clock (draw_at draws) trees) old new end
-  pub goes : GoesOn d old new
+  pub goes : Continues d old new
 
 -- there was no memory to make it
 pub record EndsUnmade {D : Type 0} (old new : Desk D) (before now : Option (List ℕ)) (end : Ending) : Type 0 where
@@ -90,7 +90,7 @@ EndsNext d seed n j old new draws before now end =
 
 -- the desk was left alone, or went on
 abbrev pub GoesOrStays : {D : Type 0} → disks.Ghosts D → Desk D → Desk D → Type 0
-GoesOrStays d old new = (new ≡ old) ⊎ GoesOn d old new
+GoesOrStays d old new = (new ≡ old) ⊎ Continues d old new
 
 -- Before batch j, with so many left: whatever comes of them comes of the whole.
 pub record LoadsSoFar {D : Type 0} (d : disks.Ghosts D) (seed n : ℕ) (old new : Desk D) (draws draws_now : Draws)

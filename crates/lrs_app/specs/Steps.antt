@@ -28,7 +28,7 @@ pub record IsOpened {D : Type 0} (d : disks.Ghosts D) (desk : Desk D) : Type 0 w
   pub durable : IsOnDisk d.told d.image d.time d.image_since desk
 
 -- What acts make of a desk: its line goes on, and a stop at any moment leaves what stood without doubt before them.
-pub record GoesOn {D : Type 0} (d : disks.Ghosts D) (old new : Desk D) : Type 0 where
+pub record Continues {D : Type 0} (d : disks.Ghosts D) (old new : Desk D) : Type 0 where
   pub limit : new.limit ≡ old.limit
   pub begins : BeginsWith old.line new.line
   pub tells : TellsAlike (d.told old.disk) (d.told new.disk)

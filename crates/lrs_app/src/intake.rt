@@ -11,7 +11,7 @@ ghost use Rattle.lrs_console.specs.Reading.{ForInput};
 ghost use Rattle.lrs_console.specs.Asking.{EndsSaying, EndsRefused, put_answer};
 ghost use Rattle.lrs_app.specs.Disks.{taken_now};
 ghost use Rattle.lrs_app.specs.ClosingSteps.{ClosesTaken};
-ghost use Rattle.lrs_app.specs.Steps.{DoubtsOnly, GoesOn, IsOpened, Submits, HasPutCause, HasCauses, ending_of, ending_of_trouble};
+ghost use Rattle.lrs_app.specs.Steps.{DoubtsOnly, Continues, IsOpened, Submits, HasPutCause, HasCauses, ending_of, ending_of_trouble};
 ghost use Rattle.lrs_app.specs.Run.{EndsOpened, IntakeEnds, HasEndingCause};
 
 use lrs_console::{Ending, take_statement};
@@ -63,7 +63,7 @@ fn submit<D: Disk>(desk: &mut Desk<D>, id: &Id, statement: Tree, clock: u64, dra
     ensures ends { Submits (history desk.old) id.now
         (put_answer desk.old.limit (history desk.old) clock draw.now id.now statement) (history desk.new) result }
     ensures doubts { DoubtsOnly desk.old desk.new result }
-    ensures goes_on { GoesOn D.Disk desk.old desk.new }
+    ensures goes_on { Continues D.Disk desk.old desk.new }
     ensures cause { HasPutCause (D.fault_count desk.old.disk) (D.fault_count desk.new.disk) result }
 {
     match desk.put(*id, statement, clock, draw).0 {
@@ -94,7 +94,7 @@ fn take_in<D: Disk, I: Source>(
     ensures ends { ForInput (I.left input.old) (λ bytes. EndsOpened desk.old.limit (history desk.old)
         (history desk.new) bytes clock draw.now result) }
     ensures doubts { DoubtsOnly desk.old desk.new result }
-    ensures goes_on { GoesOn D.Disk desk.old desk.new }
+    ensures goes_on { Continues D.Disk desk.old desk.new }
     ensures cause { HasCauses (D.fault_count desk.old.disk) (D.fault_count desk.new.disk) (I.fault_count input.old)
         (I.fault_count input.new) result }
 {

@@ -10,7 +10,7 @@ ghost use Rattle.lrs_hall.specs.LrsMachineLine.{in_doubt};
 ghost use Rattle.lrs_app.specs.Disks.{taken_now};
 ghost use Rattle.lrs_app.specs.Load.{EndsLoad, EndsLoadRefused, GoesOnLoading, post_answer};
 ghost use Rattle.lrs_app.specs.LoadSteps.{ClosesReading, EndsBatch, EndsNext, IsLoaded, IsMet, IsOfBatch, SaysOfBatch, TakesBatch, TakesNext};
-ghost use Rattle.lrs_app.specs.Steps.{GoesOn, HasPutCause, IsOpened};
+ghost use Rattle.lrs_app.specs.Steps.{Continues, HasPutCause, IsOpened};
 ghost use Rattle.lrs_app.specs.Service.{doors};
 ghost use Rattle.lrs_app.specs.Run.{HasEndingCause, LoadEnds};
 
@@ -73,7 +73,7 @@ fn post_batch<D: Disk>(
     ensures ends { let a = post_answer desk.old.limit (history desk.old) clock draw.now statements in
         MatchResult result (λ _. TakesBatch D.Disk a desk.old desk.new)
         (λ end. EndsBatch D.Disk a desk.old desk.new end) }
-    ensures goes_on { GoesOn D.Disk desk.old desk.new }
+    ensures goes_on { Continues D.Disk desk.old desk.new }
 {
     match desk.post(statements, clock, draw).0 {
         Ok(answered) => going_on(answered),

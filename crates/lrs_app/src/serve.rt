@@ -5,7 +5,7 @@ ghost use Rattle.lrs_journal.specs.Journal.{IsSynced};
 ghost use Rattle.lrs_hall.specs.LrsMachineDesk.{history};
 ghost use Rattle.lrs_app.specs.Disks.{taken_now};
 ghost use Rattle.lrs_app.specs.Service.{CountsOn, doors, ending_of_serving, receipts_of_all, responses_of};
-ghost use Rattle.lrs_app.specs.Steps.{GoesOn, IsOpened};
+ghost use Rattle.lrs_app.specs.Steps.{Continues, IsOpened};
 ghost use Rattle.lrs_app.specs.ServeSteps.{ServesDesk, ServesOpened, ending_of_refusal};
 ghost use Rattle.lrs_app.specs.Run.{HasEndingCause, ServesDisk};
 ghost use Rattle.lrs_turn.specs.declared.turns.TheConstants.{MOST_PASSES};
@@ -84,7 +84,7 @@ where
     ensures later { D.fault_count desk.disk ≤ D.fault_count result.0.disk }
     ensures within { AreWithin (tide_at D.fault_count D.time desk.disk) (tide_at D.fault_count D.time result.0.disk)
         (receipts_of_all result.1) }
-    ensures goes_on { GoesOn D.Disk desk result.0 }
+    ensures goes_on { Continues D.Disk desk result.0 }
     ensures readings { B.readings lobby.new ≡ B.readings lobby.old }
 {
     match lobby.doors(alloc, address.as_str(), workers as usize) {

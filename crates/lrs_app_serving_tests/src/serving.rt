@@ -107,7 +107,7 @@ fn a_server_keeps_to_the_limit(rt: HostRuntime) -> Result<(), Fail> {
     Ok(())
 }
 
-// Whether one connection, of which reads end at these places, is sent this.
+// Whether one connection, of which reads end at these offsets, is sent this.
 fn are_answered<R: Threads + Wait + Sync>(
     rt: &R,
     alloc: Global,
@@ -166,7 +166,7 @@ fn a_server_keeps_statements_for_later_connections(rt: HostRuntime) -> Result<()
     check_answers(&rt, rt.alloc(), file.as_slice(), GET, SHOWN)
 }
 
-// Fails with the first place at which a read may not end.
+// Fails with the first offset at which a read may not end.
 fn check_cuts<R: Threads + Wait + Sync>(
     rt: &R,
     alloc: Global,

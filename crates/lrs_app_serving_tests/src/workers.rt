@@ -94,13 +94,13 @@ fn served<R: Threads + Wait + Sync>(
     run_over(rt, alloc, line.as_str(), &around)
 }
 
-// Counts for each place how many receipts of a talk tell it as their entry's.
-fn count_entries(places: &mut [u64], talk: &Talk) {
+// Counts for each index how many receipts of a talk tell it as their entry's.
+fn count_entries(counts: &mut [u64], talk: &Talk) {
     for receipt in talk.receipts() {
         if let Some(entry) = receipt.entry() {
-            let place = entry as usize;
-            if place < places.len() {
-                places[place] = places[place].saturating_add(1);
+            let index = entry as usize;
+            if index < counts.len() {
+                counts[index] = counts[index].saturating_add(1);
             }
         }
     }
@@ -108,14 +108,14 @@ fn count_entries(places: &mut [u64], talk: &Talk) {
 
 // Whether each entry behind the founding one is that of one receipt, and no other is.
 fn are_told_once(talks: &[Items<Talk>], length: u64) -> bool {
-    let mut places = [0; 128];
+    let mut counts = [0; 128];
     for of_one in talks {
         for talk in of_one.as_slice() {
-            count_entries(&mut places, talk);
+            count_entries(&mut counts, talk);
         }
     }
-    places.iter().enumerate().all(|(place, count)| {
-        let wanted = if place > 0 && (place as u64) < length {
+    counts.iter().enumerate().all(|(index, count)| {
+        let wanted = if index > 0 && (index as u64) < length {
             1
         } else {
             0
@@ -153,7 +153,7 @@ fn ending(alloc: Global, ran: &Ran) -> Result<String, Fail> {
 fn found_in(alloc: Global, ran: &Ran, statements: u64) -> Result<String, Fail> {
     let mut found = ending(alloc, ran)?;
     if !are_told_once(ran.talks.as_slice(), ran.length) {
-        found.push_str("places")?;
+        found.push_str("counts")?;
     } else if !are_sent(alloc, ran, statements)? {
         found.push_str("sent")?;
     }

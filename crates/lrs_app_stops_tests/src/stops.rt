@@ -150,16 +150,16 @@ fn a_stop_in_init_leaves_no_store_or_the_whole(rt: HostRuntime) -> Result<(), Fa
 
 // Where the gate stands after so many frames of a journal.
 fn gate_behind(journal: &[u8], frames: u64) -> Option<usize> {
-    let mut place: usize = 17;
+    let mut offset: usize = 17;
     for _ in 0..frames {
-        let head = journal.get(place..)?.get(1..5)?;
+        let head = journal.get(offset..)?.get(1..5)?;
         let [a, b, c, d] = head else {
             return None;
         };
         let length = u32::from_be_bytes([*a, *b, *c, *d]);
-        place = place.saturating_add(5).saturating_add(length as usize);
+        offset = offset.saturating_add(5).saturating_add(length as usize);
     }
-    Some(place)
+    Some(offset)
 }
 
 // Whether a file begins with so many frames of the whole history's, and a closed gate stands after them.

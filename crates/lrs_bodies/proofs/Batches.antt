@@ -1,22 +1,12 @@
 -- The statements of a batch are told by what is seen of them, and each is such as reading gives.
-use Rattle.std.proofs.Common.{◌≡◌, ◌≤◌, List, [], ◌∷◌, map, refl, sym, subst, arith}
+use Rattle.std.proofs.Common.{◌≡◌, ◌≤◌, List, [], ◌∷◌, map, sym, subst, arith}
 use Rattle.lrs_json.specs.Depth.{depth_of_elements}
 use Rattle.lrs_json.specs.Fits.{FitElements, IsReadable}
 use Rattle.lrs_json.specs.Json.{Json, null, boolean, number, string, array, object, Elements}
 use Rattle.lrs_json.specs.View.{view, elements_of}
 use Rattle.lrs_json.specs.declared.tree.Tree.{Tree}
-use Rattle.lrs_json.proofs.Back.{same_tree}
 use Rattle.lrs_json.specs.declared.limits.TheConstants.{DEPTH}
 use Rattle.lrs_bodies.specs.Bodies.{AreReadable, batch_of}
-
-pub same_trees : (ts us : List Tree) → elements_of (map view ts) ≡ elements_of (map view us) → ts ≡ us
-same_trees [] [] e = refl
-same_trees [] (u ∷ us) e = absurd (cc e)
-same_trees (t ∷ ts) [] e = absurd (cc e)
-same_trees (t ∷ ts) (u ∷ us) e =
-    let first : view t ≡ view u = cc e in
-    let rest : elements_of (map view ts) ≡ elements_of (map view us) = cc e in
-    cc (same_tree t u first, same_trees ts us rest)
 
 readable_elements : (ts : List Tree) → FitElements (elements_of (map view ts)) → depth_of_elements (elements_of (map view ts)) ≤ DEPTH → AreReadable ts
 readable_elements [] fit shallow = tt

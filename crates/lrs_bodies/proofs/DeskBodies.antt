@@ -1,5 +1,6 @@
 -- The bodies of the desk: each has one value, and a launch that breaks no rule passes each test.
 use Rattle.std.proofs.Common.{◌≡◌, ℕ, Bool, true, false, List, ◌++◌, Option, Some, None, MatchOption, codes, refl, sym, ◌∙◌}
+use Rattle.std.proofs.lemmas.Option.{same_Some}
 use Rattle.lrs_agents.specs.Readings.{IsAgentOf}
 use Rattle.lrs_agents.specs.declared.agents.Agent.{Agent}
 use Rattle.lrs_json.specs.Find.{find}
@@ -14,12 +15,9 @@ use Rattle.lrs_bodies.specs.declared.body_value.BodyValue.TheVariants as body
 
 -- ---- a value gives one enrolment, one launch, one waiver and one sweep
 
-some_same : {A : Type 0} (a b : A) → Some a ≡ Some b → a ≡ b
-some_same a b e = cc e
-
 one_agent : (j : Json) (a b : Agent) → IsAgentOf j a → IsAgentOf j b → a ≡ b
 one_agent j a b h k =
-    let ifi : a.ifi ≡ b.ifi = some_same a.ifi b.ifi (sym h.ifi ∙ k.ifi) in
+    let ifi : a.ifi ≡ b.ifi = same_Some a.ifi b.ifi (sym h.ifi ∙ k.ifi) in
     let name : a.name ≡ b.name = sym h.name ∙ k.name in
     λ i. record { ifi = ifi i; name = name i }
 
@@ -29,26 +27,26 @@ one_actor (Some j) a b h k = one_agent j a b h k
 
 pub one_enrolment : (j : Json) (a b : BodyValue) → IsEnrolmentIn j a → IsEnrolmentIn j b → a ≡ b
 one_enrolment j a b h k =
-    let course : h.0 ≡ k.0 = some_same h.0 k.0 (sym h.2.course_is ∙ k.2.course_is) in
+    let course : h.0 ≡ k.0 = same_Some h.0 k.0 (sym h.2.course_is ∙ k.2.course_is) in
     let actor : h.1 ≡ k.1 = one_actor (find (codes "actor") j) h.1 k.1 h.2.actor_is k.2.actor_is in
     h.3 ∙ (λ i. body.Enrolment (course i) (actor i)) ∙ sym k.3
 
 pub one_launch : (j : Json) (a b : BodyValue) → IsLaunchIn j a → IsLaunchIn j b → a ≡ b
 one_launch j a b h k =
-    let unit : h.0 ≡ k.0 = some_same h.0 k.0 (sym h.3.unit_is ∙ k.3.unit_is) in
-    let mode : h.1 ≡ k.1 = some_same h.1 k.1 (sym h.3.mode_is ∙ k.3.mode_is) in
+    let unit : h.0 ≡ k.0 = same_Some h.0 k.0 (sym h.3.unit_is ∙ k.3.unit_is) in
+    let mode : h.1 ≡ k.1 = same_Some h.1 k.1 (sym h.3.mode_is ∙ k.3.mode_is) in
     let url : h.2 ≡ k.2 = sym h.3.return_url_is ∙ k.3.return_url_is in
     h.4 ∙ (λ i. body.Launch (unit i) (mode i) (url i)) ∙ sym k.4
 
 pub one_waiver : (j : Json) (a b : BodyValue) → IsWaiverIn j a → IsWaiverIn j b → a ≡ b
 one_waiver j a b h k =
-    let unit : h.0 ≡ k.0 = some_same h.0 k.0 (sym h.2.unit_is ∙ k.2.unit_is) in
-    let reason : h.1 ≡ k.1 = some_same h.1 k.1 (sym h.2.reason_is ∙ k.2.reason_is) in
+    let unit : h.0 ≡ k.0 = same_Some h.0 k.0 (sym h.2.unit_is ∙ k.2.unit_is) in
+    let reason : h.1 ≡ k.1 = same_Some h.1 k.1 (sym h.2.reason_is ∙ k.2.reason_is) in
     h.3 ∙ (λ i. body.Waiver (unit i) (reason i)) ∙ sym k.3
 
 pub one_sweep : (j : Json) (a b : BodyValue) → IsSweepIn j a → IsSweepIn j b → a ≡ b
 one_sweep j a b h k =
-    let idle : h.0 ≡ k.0 = some_same h.0 k.0 (sym h.1 ∙ k.1) in
+    let idle : h.0 ≡ k.0 = same_Some h.0 k.0 (sym h.1 ∙ k.1) in
     h.2 ∙ (λ i. body.Sweep (idle i)) ∙ sym k.2
 
 -- ---- a launch that breaks no rule

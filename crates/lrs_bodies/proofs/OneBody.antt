@@ -2,12 +2,13 @@
 use Rattle.std.proofs.Common.{◌≡◌, ◌≤◌, ℕ, Bool, true, false, List, [], ◌∷◌, map, Option, Some, None, refl, sym, ap, ◌∙◌, subst, inl, inr}
 use Rattle.std.specs.Prelude.{option_map}
 use Rattle.std.proofs.lemmas.Bool.{false≢true}
+use Rattle.std.proofs.lemmas.Option.{none-some}
 use Rattle.lrs_http.specs.declared.request.Request.{Request}
 use Rattle.lrs_json.specs.Depth.{depth}
 use Rattle.lrs_json.specs.Json.{Json}
 use Rattle.lrs_json.specs.View.{view}
 use Rattle.lrs_json.specs.declared.limits.TheConstants.{DEPTH}
-use Rattle.lrs_json.proofs.Back.{same_tree}
+use Rattle.lrs_json.proofs.Back.{same_tree, same_trees}
 use Rattle.lrs_json_reader.specs.Flaws.{earliest, out_of_range_numbers, repeated_names}
 use Rattle.lrs_json_reader.specs.Grammar.{IsText}
 use Rattle.lrs_json_reader.specs.Located.{Located, plain}
@@ -24,21 +25,17 @@ use Rattle.lrs_bodies.specs.Looks.{Spelled, Tested}
 use Rattle.lrs_bodies.specs.Media.{allows_json}
 use Rattle.lrs_bodies.specs.declared.body_value.BodyValue.{BodyValue}
 use Rattle.lrs_bodies.specs.declared.body_value.BodyValue.TheVariants as body
-use Rattle.lrs_bodies.proofs.Batches.{same_trees}
 use Rattle.lrs_bodies.proofs.DeskBodies.{one_enrolment, one_launch, one_waiver, one_sweep}
 
--- a JSON text spells one value, each of its parts at one place
+-- a JSON text spells one value, each of its parts at one offset
 abbrev pub OneJson : Type 0
 OneJson = (bytes : List ℕ) (p q : Located) → IsText p bytes → IsText q bytes → p ≡ q
 
 abbrev Broken : Type 0
 Broken = Option Rule
 
-none_some : {X : Type 0} (x : X) → None ≡ Some x → ⊥
-none_some x e = cc e
-
-no_earliest : (places : List ℕ) (left : ℕ) → places ≡ [] → earliest places ≡ Some left → ⊥
-no_earliest places left e s = none_some left (sym (ap earliest e) ∙ s)
+no_earliest : (offsets : List ℕ) (left : ℕ) → offsets ≡ [] → earliest offsets ≡ Some left → ⊥
+no_earliest offsets left e s = none-some left (sym (ap earliest e) ∙ s)
 
 module _ (one : OneJson) (bytes : List ℕ) where
   one_value : (j k : Json) → Spells DEPTH bytes j → Spells DEPTH bytes k → j ≡ k
@@ -120,7 +117,7 @@ module _ (one : OneJson) (bytes : List ℕ) where
     ]
   ]
 
-both : (a b c : Broken) → a ≡ c → b ≡ c → a ≡ b
+pub both : (a b c : Broken) → a ≡ c → b ≡ c → a ≡ b
 both a b c p q = p ∙ sym q
 
 tested_once : (passes : Bool) (r : Rule) (next : Broken → Type 0) (a b : Broken) → (next a → next b → a ≡ b) → Tested passes r a (next a) → Tested passes r b (next b) → a ≡ b

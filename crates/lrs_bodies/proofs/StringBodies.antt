@@ -4,9 +4,10 @@ use Rattle.std.specs.Prelude.{is_some, option_and_then}
 use Rattle.std.specs.Option.{option_map_or}
 use Rattle.lrs_json.specs.Find.{find}
 use Rattle.lrs_json.specs.Json.{Json, null, boolean, number, string, array, object}
-use Rattle.lrs_names.specs.Members.{has_member_that, is_string, text_of, text_under}
+use Rattle.lrs_json.specs.Parts.{text_in}
+use Rattle.lrs_names.specs.Members.{has_member_that, is_string, text_under}
 
-like : (o : Option Json) → option_map_or is_string o false ≡ is_some (option_and_then text_of o)
+like : (o : Option Json) → option_map_or is_string o false ≡ is_some (option_and_then text_in o)
 like None = refl
 like (Some null) = refl
 like (Some (boolean b)) = refl

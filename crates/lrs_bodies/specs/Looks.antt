@@ -41,10 +41,10 @@ is_form_rule (rule.B number) = true
 is_form_rule other = false
 
 -- A value, if nothing is broken, or the first rule that is. Running out of memory is free.
-abbrev pub Finds : {T : Type 0} → (Option Rule → Type 0) → (T → Type 0) → Result T FormRefused → Type 0
-Finds first IsValue (Ok value) = first None × IsValue value
-Finds first IsValue (Err (form_refused.Broken rule)) = first (Some rule) × IsTrue (is_form_rule rule)
-Finds first IsValue (Err form_refused.Memory) = Unit {0}
+abbrev pub FindsForm : {T : Type 0} → (Option Rule → Type 0) → (T → Type 0) → Result T FormRefused → Type 0
+FindsForm first IsValue (Ok value) = first None × IsValue value
+FindsForm first IsValue (Err (form_refused.Broken rule)) = first (Some rule) × IsTrue (is_form_rule rule)
+FindsForm first IsValue (Err form_refused.Memory) = Unit {0}
 
 -- a tree of the bytes
 pub record IsTreeOf (bytes : List ℕ) (tree : Tree) : Type 0 where

@@ -9,7 +9,7 @@ ghost use Rattle.lrs_names.specs.Members.{has_member_that, if_member, is_string_
 ghost use Rattle.lrs_names.specs.Rules.{least};
 ghost use Rattle.lrs_bodies.specs.Bodies.{BodyBreaks, IsInBody, IsLeastOf, course_body, enrolment_body, launch_body};
 ghost use Rattle.lrs_bodies.specs.DeskBodies.{IsEnrolmentIn, IsLaunchIn, enrolment_body_faults, has_iri, is_enrolment, is_launch, tells_learner, is_mode, launch_body_faults, mode_or_normal};
-ghost use Rattle.lrs_bodies.specs.Looks.{Finds};
+ghost use Rattle.lrs_bodies.specs.Looks.{FindsForm};
 
 use crate::body_value::BodyValue;
 use crate::form_refused::FormRefused;
@@ -24,7 +24,7 @@ use std::alloc::Global;
 
 /// The body as a course that isn't looked into.
 pub fn read_course(alloc: Global, request: &Request) -> Result<BodyValue, FormRefused>
-    ensures { Finds (BodyBreaks course_body request.now) (IsInBody course_body request.now) result }
+    ensures { FindsForm (BodyBreaks course_body request.now) (IsInBody course_body request.now) result }
 {
     let course = body_tree(alloc, request)?;
     Ok(BodyValue::Course(course))
@@ -32,7 +32,7 @@ pub fn read_course(alloc: Global, request: &Request) -> Result<BodyValue, FormRe
 
 /// The body as an enrolment: a course's id, and an Agent.
 pub fn read_enrolment(alloc: Global, request: &Request) -> Result<BodyValue, FormRefused>
-    ensures { Finds (BodyBreaks enrolment_body request.now) (IsInBody enrolment_body request.now) result }
+    ensures { FindsForm (BodyBreaks enrolment_body request.now) (IsInBody enrolment_body request.now) result }
 {
     let body = body_tree(alloc, request)?;
     let enrolment = enrolment_of(alloc, &body);
@@ -42,7 +42,7 @@ pub fn read_enrolment(alloc: Global, request: &Request) -> Result<BodyValue, For
 
 /// The body as a launch: a unit's id, a mode and where the content sends the learner back to.
 pub fn read_launch(alloc: Global, request: &Request) -> Result<BodyValue, FormRefused>
-    ensures { Finds (BodyBreaks launch_body request.now) (IsInBody launch_body request.now) result }
+    ensures { FindsForm (BodyBreaks launch_body request.now) (IsInBody launch_body request.now) result }
 {
     let body = body_tree(alloc, request)?;
     let launch = launch_of(alloc, &body);
@@ -51,7 +51,7 @@ pub fn read_launch(alloc: Global, request: &Request) -> Result<BodyValue, FormRe
 }
 
 fn enrolment_of(alloc: Global, tree: &Tree) -> Result<BodyValue, FormRefused>
-    ensures { Finds (IsLeastOf (enrolment_body_faults (view tree.now))) (IsEnrolmentIn (view tree.now)) result }
+    ensures { FindsForm (IsLeastOf (enrolment_body_faults (view tree.now))) (IsEnrolmentIn (view tree.now)) result }
 {
     match broken_enrolment(tree) {
         Some(number) => Err(FormRefused::Broken(Rule::B(number))),
@@ -151,7 +151,7 @@ fn iri_of(alloc: Global, text: &Text) -> Result<Iri, Memory>
 }
 
 fn launch_of(alloc: Global, tree: &Tree) -> Result<BodyValue, FormRefused>
-    ensures { Finds (IsLeastOf (launch_body_faults (view tree.now))) (IsLaunchIn (view tree.now)) result }
+    ensures { FindsForm (IsLeastOf (launch_body_faults (view tree.now))) (IsLaunchIn (view tree.now)) result }
 {
     match broken_launch(tree) {
         Some(number) => Err(FormRefused::Broken(Rule::B(number))),

@@ -1,7 +1,7 @@
 // The bodies that are documents.
 ghost use Rattle.std.specs.Prelude.{◌≡◌, IfOk};
 ghost use Rattle.lrs_bodies.specs.Bodies.{BodyBreaks, IsInBody, document_body};
-ghost use Rattle.lrs_bodies.specs.Looks.{Finds};
+ghost use Rattle.lrs_bodies.specs.Looks.{FindsForm};
 
 use crate::body_value::BodyValue;
 use crate::form_refused::FormRefused;
@@ -12,7 +12,7 @@ use std::alloc::Global;
 
 /// The body as a document: its bytes, with their media type.
 pub fn read_document(alloc: Global, request: &Request) -> Result<BodyValue, FormRefused>
-    ensures { Finds (BodyBreaks document_body request.now) (IsInBody document_body request.now) result }
+    ensures { FindsForm (BodyBreaks document_body request.now) (IsInBody document_body request.now) result }
 {
     let media = media_of(alloc, &request.media)?;
     let bytes = copied(alloc, request.body.as_slice())?;

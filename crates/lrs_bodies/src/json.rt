@@ -1,5 +1,5 @@
 // A body as JSON.
-ghost use Rattle.lrs_bodies.specs.Looks.{Finds, IsTreeOf, OnlySpelled};
+ghost use Rattle.lrs_bodies.specs.Looks.{FindsForm, IsTreeOf, OnlySpelled};
 
 use crate::form_refused::FormRefused;
 use lrs_http::Request;
@@ -9,13 +9,13 @@ use std::alloc::Global;
 
 /// The body as JSON.
 pub(crate) fn body_tree(alloc: Global, request: &Request) -> Result<Tree, FormRefused>
-    ensures { Finds (OnlySpelled request.now.body) (IsTreeOf request.now.body) result }
+    ensures { FindsForm (OnlySpelled request.now.body) (IsTreeOf request.now.body) result }
 {
     tree(alloc, request.body.as_slice())
 }
 
 fn tree(alloc: Global, bytes: &[u8]) -> Result<Tree, FormRefused>
-    ensures { Finds (OnlySpelled bytes.now) (IsTreeOf bytes.now) result }
+    ensures { FindsForm (OnlySpelled bytes.now) (IsTreeOf bytes.now) result }
 {
     match read(alloc, bytes) {
         Ok(tree) => Ok(tree),

@@ -2,7 +2,7 @@
 ghost use Rattle.std.specs.Prelude.{◌≡◌, [], ◌∷◌, IfOk, map};
 ghost use Rattle.lrs_json.specs.View.{elements_of, view};
 ghost use Rattle.lrs_bodies.specs.Bodies.{BodyBreaks, IsInBody, StatementBody, batch_of, statement_body, statements_body};
-ghost use Rattle.lrs_bodies.specs.Looks.{Finds, IsTreeOf};
+ghost use Rattle.lrs_bodies.specs.Looks.{FindsForm, IsTreeOf};
 
 use crate::body_value::BodyValue;
 use crate::form_refused::FormRefused;
@@ -15,7 +15,7 @@ use std::alloc::Global;
 
 /// The body as a statement that isn't looked into.
 pub fn read_statement(alloc: Global, request: &Request) -> Result<BodyValue, FormRefused>
-    ensures { Finds (BodyBreaks statement_body request.now) (IsInBody statement_body request.now) result }
+    ensures { FindsForm (BodyBreaks statement_body request.now) (IsInBody statement_body request.now) result }
 {
     let body = statement_tree(alloc, request)?;
     Ok(BodyValue::Statement(body))
@@ -23,7 +23,7 @@ pub fn read_statement(alloc: Global, request: &Request) -> Result<BodyValue, For
 
 /// The body as statements that aren't looked into: an array of them, or one alone.
 pub fn read_statements(alloc: Global, request: &Request) -> Result<BodyValue, FormRefused>
-    ensures { Finds (BodyBreaks statements_body request.now) (IsInBody statements_body request.now) result }
+    ensures { FindsForm (BodyBreaks statements_body request.now) (IsInBody statements_body request.now) result }
 {
     let body = statement_tree(alloc, request)?;
     let statements = batch_of(alloc, body)?;
@@ -31,7 +31,7 @@ pub fn read_statements(alloc: Global, request: &Request) -> Result<BodyValue, Fo
 }
 
 fn statement_tree(alloc: Global, request: &Request) -> Result<Tree, FormRefused>
-    ensures { Finds (StatementBody request.now) (IsTreeOf request.now.body) result }
+    ensures { FindsForm (StatementBody request.now) (IsTreeOf request.now.body) result }
 {
     if allows_json(&request.media) {
         body_tree(alloc, request)

@@ -5,7 +5,7 @@ ghost use Rattle.lrs_json.specs.View.{member_view, members_of, view};
 ghost use Rattle.lrs_names.specs.Members.{are_named_by, has_member, has_only, is_one_of};
 ghost use Rattle.lrs_rules.specs.declared.rule.Rule.TheVariants as rule;
 ghost use Rattle.lrs_bodies.specs.Bodies.{AreStrings, AreStringsOf, AreTextsOf, BodyBreaks, IsInBody, first_unlike, has_just, names_of, strings_body};
-ghost use Rattle.lrs_bodies.specs.Looks.{Finds};
+ghost use Rattle.lrs_bodies.specs.Looks.{FindsForm};
 
 use crate::body_value::BodyValue;
 use crate::form_refused::FormRefused;
@@ -23,7 +23,7 @@ pub fn read_strings(
     request: &Request,
     members: &[(&str, u8)],
 ) -> Result<BodyValue, FormRefused>
-    ensures { Finds (BodyBreaks (strings_body (map (λ m. (m.0.now, m.1)) members.now)) request.now)
+    ensures { FindsForm (BodyBreaks (strings_body (map (λ m. (m.0.now, m.1)) members.now)) request.now)
         (IsInBody (strings_body (map (λ m. (m.0.now, m.1)) members.now)) request.now) result }
 {
     let body = body_tree(alloc, request)?;
@@ -33,7 +33,7 @@ pub fn read_strings(
 }
 
 fn strings_of(alloc: Global, tree: &Tree, members: &[(&str, u8)]) -> Result<BodyValue, FormRefused>
-    ensures { Finds (AreStrings (map (λ m. (m.0.now, m.1)) members.now) (view tree.now))
+    ensures { FindsForm (AreStrings (map (λ m. (m.0.now, m.1)) members.now) (view tree.now))
         (AreStringsOf (map (λ m. (m.0.now, m.1)) members.now) (view tree.now)) result }
 {
     if !has_just(tree, members) {
@@ -96,7 +96,7 @@ fn has_all(tree: &Tree, members: &[(&str, u8)]) -> bool
 
 // The texts of the members, in their order, up to the first that is no string.
 fn texts_of(alloc: Global, tree: &Tree, members: &[(&str, u8)]) -> Result<Items<Text>, FormRefused>
-    ensures { Finds (λ broken. broken ≡ option_map (λ number. rule.B number)
+    ensures { FindsForm (λ broken. broken ≡ option_map (λ number. rule.B number)
         (first_unlike (map (λ m. (m.0.now, m.1)) members.now) (view tree.now)))
         (AreTextsOf (map (λ m. (m.0.now, m.1)) members.now) (view tree.now)) result }
 {

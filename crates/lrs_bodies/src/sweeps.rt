@@ -5,7 +5,7 @@ ghost use Rattle.std.specs.List.{list_all};
 ghost use Rattle.lrs_json.specs.View.{view};
 ghost use Rattle.lrs_bodies.specs.Bodies.{BodyBreaks, IsInBody, IsLeastOf, empty_body, sweep_body};
 ghost use Rattle.lrs_bodies.specs.DeskBodies.{IsSweepIn, empty_body_faults, idle_in, idle_of, idle_under, is_sweep, sweep_body_faults};
-ghost use Rattle.lrs_bodies.specs.Looks.{Finds};
+ghost use Rattle.lrs_bodies.specs.Looks.{FindsForm};
 ghost use Rattle.lrs_bodies.specs.declared.body_value.BodyValue.TheVariants as body;
 
 use crate::body_value::BodyValue;
@@ -19,7 +19,7 @@ use std::alloc::Global;
 
 /// The body as an object without members.
 pub fn read_empty(alloc: Global, request: &Request) -> Result<BodyValue, FormRefused>
-    ensures { Finds (BodyBreaks empty_body request.now) (IsInBody empty_body request.now) result }
+    ensures { FindsForm (BodyBreaks empty_body request.now) (IsInBody empty_body request.now) result }
 {
     let body = body_tree(alloc, request)?;
     let empty = empty_of(&body);
@@ -28,7 +28,7 @@ pub fn read_empty(alloc: Global, request: &Request) -> Result<BodyValue, FormRef
 }
 
 fn empty_of(tree: &Tree) -> Result<BodyValue, FormRefused>
-    ensures { Finds (IsLeastOf (empty_body_faults (view tree.now))) (λ value. value ≡ body.Empty) result }
+    ensures { FindsForm (IsLeastOf (empty_body_faults (view tree.now))) (λ value. value ≡ body.Empty) result }
 {
     if has_only(tree, &[]) {
         Ok(BodyValue::Empty)
@@ -39,7 +39,7 @@ fn empty_of(tree: &Tree) -> Result<BodyValue, FormRefused>
 
 /// The body as a sweep: how long its sessions have been idle.
 pub fn read_sweep(alloc: Global, request: &Request) -> Result<BodyValue, FormRefused>
-    ensures { Finds (BodyBreaks sweep_body request.now) (IsInBody sweep_body request.now) result }
+    ensures { FindsForm (BodyBreaks sweep_body request.now) (IsInBody sweep_body request.now) result }
 {
     let body = body_tree(alloc, request)?;
     let sweep = sweep_of(&body);
@@ -48,7 +48,7 @@ pub fn read_sweep(alloc: Global, request: &Request) -> Result<BodyValue, FormRef
 }
 
 fn sweep_of(tree: &Tree) -> Result<BodyValue, FormRefused>
-    ensures { Finds (IsLeastOf (sweep_body_faults (view tree.now))) (IsSweepIn (view tree.now)) result }
+    ensures { FindsForm (IsLeastOf (sweep_body_faults (view tree.now))) (IsSweepIn (view tree.now)) result }
 {
     if !is_sweep(tree) {
         return Err(FormRefused::Broken(Rule::B(1)));

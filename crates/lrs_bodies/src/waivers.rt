@@ -4,7 +4,7 @@ ghost use Rattle.lrs_json.specs.View.{view};
 ghost use Rattle.lrs_names.specs.Rules.{least};
 ghost use Rattle.lrs_bodies.specs.Bodies.{BodyBreaks, IsInBody, IsLeastOf, waiver_body};
 ghost use Rattle.lrs_bodies.specs.DeskBodies.{IsWaiverIn, is_waiver, reason_under, waiver_body_faults};
-ghost use Rattle.lrs_bodies.specs.Looks.{Finds};
+ghost use Rattle.lrs_bodies.specs.Looks.{FindsForm};
 
 use crate::body_value::BodyValue;
 use crate::desk_bodies::{has_iri, iri_under};
@@ -19,7 +19,7 @@ use std::alloc::Global;
 
 /// The body as a waiver: a unit's id, and why it is waived.
 pub fn read_waiver(alloc: Global, request: &Request) -> Result<BodyValue, FormRefused>
-    ensures { Finds (BodyBreaks waiver_body request.now) (IsInBody waiver_body request.now) result }
+    ensures { FindsForm (BodyBreaks waiver_body request.now) (IsInBody waiver_body request.now) result }
 {
     let body = body_tree(alloc, request)?;
     let waiver = waiver_of(alloc, &body);
@@ -28,7 +28,7 @@ pub fn read_waiver(alloc: Global, request: &Request) -> Result<BodyValue, FormRe
 }
 
 fn waiver_of(alloc: Global, tree: &Tree) -> Result<BodyValue, FormRefused>
-    ensures { Finds (IsLeastOf (waiver_body_faults (view tree.now))) (IsWaiverIn (view tree.now)) result }
+    ensures { FindsForm (IsLeastOf (waiver_body_faults (view tree.now))) (IsWaiverIn (view tree.now)) result }
 {
     match broken_waiver(tree) {
         Some(number) => Err(FormRefused::Broken(Rule::B(number))),

@@ -7,6 +7,15 @@ use lrs_rules::Rule;
 use xapi_keys::WantedDocuments;
 use xapi_query::{MoreLink, Wanted};
 
+/// The status of a request that breaks a rule (RFC 9110, section 15.5.1).
+pub const BAD_REQUEST: u16 = 400;
+
+/// The status where nothing is found (RFC 9110, section 15.5.5).
+pub const NOT_FOUND: u16 = 404;
+
+/// The status of content that is too large (RFC 9110, section 15.5.14).
+pub const CONTENT_TOO_LARGE: u16 = 413;
+
 /// What a caller asks.
 #[derive(Drop)]
 pub enum Command {

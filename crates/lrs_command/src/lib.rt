@@ -5,6 +5,6 @@
 mod command;
 mod who;
 
-pub use command::{Command, Read};
+pub use command::{BAD_REQUEST, CONTENT_TOO_LARGE, Command, NOT_FOUND, Read};
 pub use lrs_record::Area;
 pub use who::Who;

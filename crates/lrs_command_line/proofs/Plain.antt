@@ -3,20 +3,10 @@ use Rattle.std.proofs.Common.{◌≡◌, ◌&&◌, ◌||◌, ◌∙◌, not, ℕ
 use Rattle.std.specs.Prelude.{slice_get}
 use Rattle.std.specs.Str.{bytes_eq}
 use Rattle.std.proofs.lemmas.Slice.Eq.{bytes_eq-Decides}
+use Rattle.std.proofs.lemmas.Bool.{and_parts, not-true}
 use Rattle.lrs_json.specs.Names.{is_among}
 use Rattle.lrs_command_line.specs.CommandLine.{Part, word, option, line_of, words_of, value_of, is_no_option, ArePlain}
 use Rattle.lrs_command_line.specs.Shapes.{is_option, is_plain, alone, value_behind}
-
-both : (a b : Bool) → (a && b) ≡ true → (a ≡ true) × (b ≡ true)
-both true b e = (refl, e)
-both false b e = cc
-
-joined : (a b : Bool) → a ≡ true → b ≡ true → (a && b) ≡ true
-joined a b x y = rw (x, y) refl
-
-no : (a : Bool) → not a ≡ true → a ≡ false
-no true e = cc
-no false e = refl
 
 -- each of these is spelled as the name of an option
 abbrev pub AreOptions : List (List ℕ) → Type 0
@@ -53,10 +43,10 @@ by_option : (options : List (List ℕ)) (name value : List ℕ) (words : List (L
     → (is_option options name (value ∷ words) && (is_no_option value && is_plain options false words)) ≡ true
     → (parts : List Part) × IsMadeOf options words parts → (parts : List Part) × IsMadeOf options (name ∷ value ∷ words) parts
 by_option options name value words named e (parts, made) =
-    let tests = both (is_option options name (value ∷ words)) (is_no_option value && is_plain options false words) e in
-    let once = both (is_among name options) (not (is_among name (value ∷ words))) tests.0 in
-    let good = both (is_no_option value) (is_plain options false words) tests.1 in
-    let alone_once : is_among name (value ∷ words) ≡ false = no (is_among name (value ∷ words)) once.1 in
+    let tests = and_parts (is_option options name (value ∷ words)) (is_no_option value && is_plain options false words) e in
+    let once = and_parts (is_among name options) (not (is_among name (value ∷ words))) tests.0 in
+    let good = and_parts (is_no_option value) (is_plain options false words) tests.1 in
+    let alone_once : is_among name (value ∷ words) ≡ false = not-true (is_among name (value ∷ words)) once.1 in
     let behind : is_among name (value ∷ words) ≡ is_among name words = behind_value (bytes_eq name value) (is_among name words) alone_once in (
       option name value ∷ parts,
       (ap (λ ws. name ∷ value ∷ ws) made.0, (once.0, subst (λ ws. is_among name ws ≡ false) made.0 (sym behind ∙ alone_once), good.0, made.1)),
@@ -72,7 +62,7 @@ parts_of options [] e = ([], (refl, tt))
 parts_of options (w ∷ []) e = single (is_no_option w) refl e where
   single : (b : Bool) → is_no_option w ≡ b → cond b true (is_option options w [] && false) ≡ true → (parts : List Part) × IsMadeOf options (w ∷ []) parts
   single true named e = (word w ∷ [], (refl, (named, tt)))
-  single false named e = let bad = both (is_option options w []) false e in cc
+  single false named e = let bad = and_parts (is_option options w []) false e in cc
 parts_of options (w ∷ value ∷ words) e = by_first (is_no_option w) refl e (λ k. parts_of options (value ∷ words) k) (λ k. parts_of options words k) where
   after : (parts : List Part) × IsMadeOf options (value ∷ words) parts → is_no_option w ≡ true → (parts : List Part) × IsMadeOf options (w ∷ value ∷ words) parts
   after (parts, made) named = (word w ∷ parts, (ap (λ ws. w ∷ ws) made.0, (named, made.1)))
@@ -84,7 +74,7 @@ parts_of options (w ∷ value ∷ words) e = by_first (is_no_option w) refl e (�
       → (parts : List Part) × IsMadeOf options (w ∷ value ∷ words) parts
   by_first true named e alone behind = after (alone e) named
   by_first false named e alone behind =
-      let good = both (is_no_option value) (is_plain options false words) (both (is_option options w (value ∷ words)) (is_no_option value && is_plain options false words) e).1 in
+      let good = and_parts (is_no_option value) (is_plain options false words) (and_parts (is_option options w (value ∷ words)) (is_no_option value && is_plain options false words) e).1 in
       by_option options w value words named e (behind good.1)
 
 pub alone_of : (options : List (List ℕ)) (parts : List Part) → AreOptions options → ArePlain options parts → alone false (line_of parts) ≡ words_of parts

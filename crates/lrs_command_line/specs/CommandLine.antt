@@ -1,5 +1,5 @@
 -- The words of the command line: `init FILE --admin TOKEN [--base URL] [--limit BYTES]`, `intake FILE`,
--- `serve FILE ADDRESS --workers W --connections N` and `load FILE SEED N`, each option with its value at any place
+-- `serve FILE ADDRESS --workers W --connections N` and `load FILE SEED N`, each option with its value anywhere
 -- after the command's name.
 use Rattle.std.specs.Prelude.{◌≡◌, ◌<◌, ◌≤◌, ◌⊎◌, ◌==◌, ◌-◌, ◌^◌, ⊤, not, ℕ, Bool, true, false, List, [], ◌∷◌, length}
 use Rattle.std.specs.Prelude.{Option, Some, None, IfSome, if◌then◌else◌, unwrap_or, codes}

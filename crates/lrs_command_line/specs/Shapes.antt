@@ -51,7 +51,8 @@ abbrev pub is_plain : List (List ℕ) → Bool → List (List ℕ) → Bool
 is_plain options behind_option [] = not behind_option
 is_plain options true (value ∷ words) = is_no_option value && is_plain options false words
 is_plain options false (word ∷ words) =
-    if is_no_option word then is_plain options false words else (is_option options word words && is_plain options true words)
+    if is_no_option word then is_plain options false words
+    else (is_option options word words && is_plain options true words)
 
 -- the words that stand alone
 abbrev pub alone : Bool → List (List ℕ) → List (List ℕ)

@@ -292,7 +292,7 @@ fn read_named(alloc: Global, words: &[Text]) -> Result<Option<ProgramCommand>, M
 
 /// Reads the words after the program's name: a command of the program, or none (a usage fault).
 ///
-/// A command's options stand in any order and at any place after its name, `--name VALUE` or `--name=VALUE`, and each
+/// A command's options stand in any order and anywhere after its name, `--name VALUE` or `--name=VALUE`, and each
 /// once. A `--` ends them, so that a FILE after it may begin with `-`.
 pub fn read_words(alloc: Global, words: &[Text]) -> Result<Option<ProgramCommand>, Memory>
     ensures { IfOk result (λ found. MatchOption found ((c : SpecCommandLine) → IsCommandLine words.now c → ⊥)

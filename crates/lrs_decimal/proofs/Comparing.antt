@@ -12,7 +12,7 @@ use Rattle.lrs_decimal.specs.declared.limits.TheConstants.{LARGEST_EXPONENT, MOS
 cmp_less : (x y : ℕ) → x < y → nat_cmp x y ≡ Less
 cmp_less x y l = grind (arith, common_steps)
 
-cmp_equal : (x y : ℕ) → x ≡ y → nat_cmp x y ≡ Equal
+pub cmp_equal : (x y : ℕ) → x ≡ y → nat_cmp x y ≡ Equal
 cmp_equal x y e = grind (arith, common_steps)
 
 cmp_more : (x y : ℕ) → y < x → nat_cmp x y ≡ Greater

@@ -66,7 +66,7 @@ behind_below n (d ∷ ds) each =
     let power : (n + 1) * 10 * 10 ^ length ds ≡ (n + 1) * 10 ^ suc (length ds) = mul_assoc (n + 1) 10 (10 ^ length ds) ∙ ap (λ k. (n + 1) * k) (mul_comm 10 (10 ^ length ds) ∙ sym (pow-suc 10 (length ds))) in
     rw (← power) (omega (arith, h, more))
 
-Each-append : (p : ℕ → Bool) (xs ys : List ℕ) → Each p xs → Each p ys → Each p (xs ++ ys)
+pub Each-append : (p : ℕ → Bool) (xs ys : List ℕ) → Each p xs → Each p ys → Each p (xs ++ ys)
 Each-append p [] ys a b = b
 Each-append p (x ∷ xs) ys a b = (a.0, Each-append p xs ys a.1 b)
 
@@ -120,7 +120,7 @@ digits_taken ds =
 
 -- ---- the digits between the zeros
 
-take_all : (bs : List ℕ) → take (length bs) bs ≡ bs
+pub take_all : (bs : List ℕ) → take (length bs) bs ≡ bs
 take_all bs = grind (arith, common_steps)
 
 zeros_lead : (b : List ℕ) → Each is_zero_digit b → leading_zeros b ≡ length b

@@ -12,6 +12,7 @@ use Rattle.lrs_decimal.proofs.Digits.{digits_taken, zeros_value, window_small, E
 use Rattle.std.specs.List.{filter}
 use Rattle.lrs_decimal.specs.Numbers.{is_digit}
 use Rattle.lrs_decimal.specs.Parts.{before, is_e}
+use Rattle.lrs_decimal.proofs.NumberLemmas.{not_eq}
 
 -- what holds of a spelling in range
 pub record InRange (s : List ℕ) : Type 0 where
@@ -28,16 +29,13 @@ or_right false b e f = e
 le_of : (m n : ℕ) → nat_le m n ≡ true → m ≤ n
 le_of m n e = grind (arith, common_steps)
 
-not_same : (m n : ℕ) → m ≢ n → (m == n) ≡ false
-not_same m n h = grind (arith, common_steps)
-
 pub in_range : (s : List ℕ) → IsTrue (is_in_range s) → InRange s
 in_range s t =
     let ds = all_digits s in
     let right = point_right s + trailing_zeros ds in
     let sizes : (nat_le (length s) LONGEST_SPELLING && nat_le (length (exponent_digits s)) MOST_EXPONENT_DIGITS) ≡ true = first_so (nat_le (length s) LONGEST_SPELLING && nat_le (length (exponent_digits s)) MOST_EXPONENT_DIGITS) _ t in
     let rest = second_so (nat_le (length s) LONGEST_SPELLING && nat_le (length (exponent_digits s)) MOST_EXPONENT_DIGITS) _ t in
-    let value : leading_zeros ds ≢ length ds → (nat_le (significant_digits ds) MOST_SIGNIFICANT_DIGITS && has_small_exponent s) ≡ true = λ some. or_right (leading_zeros ds == length ds) _ rest (not_same (leading_zeros ds) (length ds) some) in
+    let value : leading_zeros ds ≢ length ds → (nat_le (significant_digits ds) MOST_SIGNIFICANT_DIGITS && has_small_exponent s) ≡ true = λ some. or_right (leading_zeros ds == length ds) _ rest (not_eq (leading_zeros ds) (length ds) some) in
     let exponent : leading_zeros ds ≢ length ds → has_small_exponent s ≡ true = λ some. second_so (nat_le (significant_digits ds) MOST_SIGNIFICANT_DIGITS) (has_small_exponent s) (value some) in
     record {
       short = le_of (length s) LONGEST_SPELLING (first_so (nat_le (length s) LONGEST_SPELLING) (nat_le (length (exponent_digits s)) MOST_EXPONENT_DIGITS) sizes);

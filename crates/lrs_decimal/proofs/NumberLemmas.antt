@@ -1,15 +1,16 @@
 -- A number is read as far as it goes, and is found again before what doesn't go on.
 use Rattle.std.proofs.Common.{◌≡◌, ◌≢◌, ◌≤◌, ℕ, ◌-◌, length, take, drop, length-append, Option, ◌==◌, ◌||◌, inl, inr, List, [], ◌∷◌, ◌++◌, Bool, true, false, Some, None, option_and_then, if◌then◌else◌, refl, sym, ap, ◌∙◌, subst, IsTrue, arith, append_assoc}
-use Rattle.std.proofs.lemmas.Option.{option_and_then_some}
+use Rattle.std.proofs.lemmas.Option.{option_and_then_some, same_Some}
 use Rattle.std.proofs.lemmas.Grind.{common_steps}
 use Rattle.lrs_decimal.specs.Numbers.{is_digit, Each, IsDigits, IsWhole, IsFraction, IsExponent, IsNumber, without, unsigned, digits_end, whole_end, fraction_end, exponent_end, number_end}
 use Rattle.lrs_decimal.specs.Numbers.{Stops, Ends}
 use Rattle.lrs_decimal.proofs.Runs.{run, behind, Each-run, run-behind, behind_again, take_front}
+use Rattle.lrs_decimal.proofs.Digits.{Each-append}
 use Rattle.std.proofs.Math.Seq.{drop-append_seam}
 
 -- ---- again
 
-not_eq : (a b : ℕ) → a ≢ b → (a == b) ≡ false
+pub not_eq : (a b : ℕ) → a ≢ b → (a == b) ≡ false
 not_eq a b h = grind (arith, common_steps)
 
 unsigned_append_at : (b : ℕ) (bs x : List ℕ) (t : Bool) → (if t then bs ++ x else b ∷ (bs ++ x)) ≡ (if t then bs else b ∷ bs) ++ x
@@ -68,10 +69,6 @@ is_numeric b = is_digit b || b == 43 || b == 45 || b == 46 || b == 69 || b == 10
 
 e_numeric : (b : ℕ) → IsTrue (b == 101 || b == 69) → IsTrue (is_numeric b)
 e_numeric b e = grind arith
-
-Each-append : (p : ℕ → Bool) (xs ys : List ℕ) → Each p xs → Each p ys → Each p (xs ++ ys)
-Each-append p [] ys x y = y
-Each-append p (b ∷ xs) ys x y = (x.0, Each-append p xs ys x.1 y)
 
 digit_numeric : (b : ℕ) → IsTrue (is_digit b) → IsTrue (is_numeric b)
 digit_numeric b d = grind arith
@@ -159,17 +156,14 @@ number_again s x n ends =
 
 -- ---- what is read is a number
 
-some_same : (x y : List ℕ) → Some x ≡ Some y → x ≡ y
-some_same x y e = cc e
+abbrev StartsWith : (List ℕ → Type 0) → List ℕ → List ℕ → Type 0
+StartsWith P bs r = (s : List ℕ) × (bs ≡ s ++ r) × P s
 
-abbrev Front : (List ℕ → Type 0) → List ℕ → List ℕ → Type 0
-Front P bs r = (s : List ℕ) × (bs ≡ s ++ r) × P s
-
-digits_at : (b : ℕ) (bs r : List ℕ) (t : Bool) → is_digit b ≡ t → (if t then Some (behind is_digit bs) else None) ≡ Some r → Front IsDigits (b ∷ bs) r
-digits_at b bs r true e h = (b ∷ run is_digit bs, ap (λ z. b ∷ z) (run-behind is_digit bs ∙ ap (λ z. run is_digit bs ++ z) (some_same _ r h)), (e, Each-run is_digit bs))
+digits_at : (b : ℕ) (bs r : List ℕ) (t : Bool) → is_digit b ≡ t → (if t then Some (behind is_digit bs) else None) ≡ Some r → StartsWith IsDigits (b ∷ bs) r
+digits_at b bs r true e h = (b ∷ run is_digit bs, ap (λ z. b ∷ z) (run-behind is_digit bs ∙ ap (λ z. run is_digit bs ++ z) (same_Some _ r h)), (e, Each-run is_digit bs))
 digits_at b bs r false e h = cc h
 
-digits_found : (bs r : List ℕ) → digits_end bs ≡ Some r → Front IsDigits bs r
+digits_found : (bs r : List ℕ) → digits_end bs ≡ Some r → StartsWith IsDigits bs r
 unfolding digits_end
 digits_found [] r e = cc e
 digits_found (b ∷ bs) r e = digits_at b bs r (is_digit b) refl e
@@ -178,46 +172,46 @@ no_zero : (b : ℕ) (bs r ds : List ℕ) → b ≢ 48 → b ∷ bs ≡ ds ++ r �
 no_zero b bs r [] n e d = absurd d
 no_zero b bs r (c ∷ ds) n e d = let same : b ≡ c = cc e in inr ((λ z. n (same ∙ z)), d)
 
-whole_at : (b : ℕ) (bs r : List ℕ) (t : Bool) → (b == 48) ≡ t → (if t then Some bs else digits_end (b ∷ bs)) ≡ Some r → Front IsWhole (b ∷ bs) r
-whole_at b bs r true e h = let z : b ≡ 48 = grind (arith, common_steps) in (b ∷ [], ap (λ z. b ∷ z) (some_same bs r h), inl (z, refl))
+whole_at : (b : ℕ) (bs r : List ℕ) (t : Bool) → (b == 48) ≡ t → (if t then Some bs else digits_end (b ∷ bs)) ≡ Some r → StartsWith IsWhole (b ∷ bs) r
+whole_at b bs r true e h = let z : b ≡ 48 = grind (arith, common_steps) in (b ∷ [], ap (λ z. b ∷ z) (same_Some bs r h), inl (z, refl))
 whole_at b bs r false e h =
     let d = digits_found (b ∷ bs) r h in
     let n : b ≢ 48 = grind (arith, common_steps) in
     (d.0, d.1, no_zero b bs r d.0 n d.1 d.2)
 
-whole_found : (bs r : List ℕ) → whole_end bs ≡ Some r → Front IsWhole bs r
+whole_found : (bs r : List ℕ) → whole_end bs ≡ Some r → StartsWith IsWhole bs r
 unfolding whole_end
 whole_found [] r e = cc e
 whole_found (b ∷ bs) r e = whole_at b bs r (b == 48) refl e
 
-fraction_at : (b : ℕ) (bs r : List ℕ) (t : Bool) → (b == 46) ≡ t → (if t then digits_end bs else Some (b ∷ bs)) ≡ Some r → Front IsFraction (b ∷ bs) r
+fraction_at : (b : ℕ) (bs r : List ℕ) (t : Bool) → (b == 46) ≡ t → (if t then digits_end bs else Some (b ∷ bs)) ≡ Some r → StartsWith IsFraction (b ∷ bs) r
 fraction_at b bs r true e h = let d = digits_found bs r h in let z : b ≡ 46 = grind (arith, common_steps) in (b ∷ d.0, ap (λ z. b ∷ z) d.1, (z, d.2))
-fraction_at b bs r false e h = ([], some_same (b ∷ bs) r h, tt)
+fraction_at b bs r false e h = ([], same_Some (b ∷ bs) r h, tt)
 
-fraction_found : (bs r : List ℕ) → fraction_end bs ≡ Some r → Front IsFraction bs r
+fraction_found : (bs r : List ℕ) → fraction_end bs ≡ Some r → StartsWith IsFraction bs r
 unfolding fraction_end
-fraction_found [] r e = ([], some_same [] r e, tt)
+fraction_found [] r e = ([], same_Some [] r e, tt)
 fraction_found (b ∷ bs) r e = fraction_at b bs r (b == 46) refl e
 
 unsigned_digits : (ds : List ℕ) → IsDigits ds → unsigned ds ≡ ds
 unsigned_digits [] d = absurd d
 unsigned_digits (b ∷ ds) d = let n : (b == 43 || b == 45) ≡ false = grind arith in rw n refl
 
-sign_at : (c : ℕ) (cs r : List ℕ) (t : Bool) → (c == 43 || c == 45) ≡ t → Front IsDigits (if t then cs else c ∷ cs) r → Front (λ s. IsDigits (unsigned s)) (c ∷ cs) r
+sign_at : (c : ℕ) (cs r : List ℕ) (t : Bool) → (c == 43 || c == 45) ≡ t → StartsWith IsDigits (if t then cs else c ∷ cs) r → StartsWith (λ s. IsDigits (unsigned s)) (c ∷ cs) r
 sign_at c cs r true e d = (c ∷ d.0, ap (λ z. c ∷ z) d.1, rw e d.2)
 sign_at c cs r false e d = (d.0, d.1, rw (unsigned_digits d.0 d.2) d.2)
 
-signed_found : (bs r : List ℕ) → Front IsDigits (unsigned bs) r → Front (λ s. IsDigits (unsigned s)) bs r
+signed_found : (bs r : List ℕ) → StartsWith IsDigits (unsigned bs) r → StartsWith (λ s. IsDigits (unsigned s)) bs r
 signed_found [] r d = (d.0, d.1, rw (unsigned_digits d.0 d.2) d.2)
 signed_found (c ∷ cs) r d = sign_at c cs r (c == 43 || c == 45) refl d
 
-exponent_at : (b : ℕ) (bs r : List ℕ) (t : Bool) → (b == 101 || b == 69) ≡ t → (if t then digits_end (unsigned bs) else Some (b ∷ bs)) ≡ Some r → Front IsExponent (b ∷ bs) r
+exponent_at : (b : ℕ) (bs r : List ℕ) (t : Bool) → (b == 101 || b == 69) ≡ t → (if t then digits_end (unsigned bs) else Some (b ∷ bs)) ≡ Some r → StartsWith IsExponent (b ∷ bs) r
 exponent_at b bs r true e h = let d = signed_found bs r (digits_found (unsigned bs) r h) in (b ∷ d.0, ap (λ z. b ∷ z) d.1, (e, d.2))
-exponent_at b bs r false e h = ([], some_same (b ∷ bs) r h, tt)
+exponent_at b bs r false e h = ([], same_Some (b ∷ bs) r h, tt)
 
-exponent_found : (bs r : List ℕ) → exponent_end bs ≡ Some r → Front IsExponent bs r
+exponent_found : (bs r : List ℕ) → exponent_end bs ≡ Some r → StartsWith IsExponent bs r
 unfolding exponent_end
-exponent_found [] r e = ([], some_same [] r e, tt)
+exponent_found [] r e = ([], same_Some [] r e, tt)
 exponent_found (b ∷ bs) r e = exponent_at b bs r (b == 101 || b == 69) refl e
 
 digit_no_minus : (b : ℕ) → IsTrue (is_digit b) → (b == 45) ≡ false
@@ -234,7 +228,7 @@ minus_front : (bs r y : List ℕ) → without 45 bs ≡ y ++ r → without 45 y 
 minus_front [] r y h w = (y, h, w)
 minus_front (b ∷ bs) r y h w = minus_at b bs r y (b == 45) refl h w
 
-pub number_found : (bs r : List ℕ) → number_end bs ≡ Some r → Front IsNumber bs r
+pub number_found : (bs r : List ℕ) → number_end bs ≡ Some r → StartsWith IsNumber bs r
 unfolding number_end
 number_found bs r e =
     option_and_then_some exponent_end (option_and_then fraction_end (whole_end (without 45 bs))) r e (λ x ex ee. option_and_then_some fraction_end (whole_end (without 45 bs)) x ex (λ y ey fe.
@@ -270,7 +264,7 @@ behind_len bs rest n e en =
 
 pub len_again : (bs rest : List ℕ) (n : ℕ) → number_end bs ≡ Some rest → n ≡ length bs - length rest → (s end : List ℕ) → bs ≡ s ++ end → IsNumber s → Ends end → Some n ≡ Some (length s)
 len_again bs rest n e en s end is num ends =
-    let same : rest ≡ end = some_same rest end (sym e ∙ ap number_end is ∙ number_again s end num ends) in
+    let same : rest ≡ end = same_Some rest end (sym e ∙ ap number_end is ∙ number_again s end num ends) in
     ap Some (front_len bs s end n is (subst (λ z. n ≡ length bs - length z) same en))
 
 none_some : (x : List ℕ) → ◌≡◌ {A = Option (List ℕ)} None (Some x) → ⊥

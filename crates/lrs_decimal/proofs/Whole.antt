@@ -4,9 +4,7 @@ use Rattle.std.proofs.lemmas.List.{append-nil}
 use Rattle.std.proofs.lemmas.Grind.{common_steps}
 use Rattle.std.specs.Option.{option_eq}
 use Rattle.lrs_decimal.specs.Numbers.{IsNumber, Ends}
-
-take_all : (bs : List ℕ) → take (length bs) bs ≡ bs
-take_all bs = grind (arith, common_steps)
+use Rattle.lrs_decimal.proofs.Digits.{take_all}
 
 len_same : (n m : ℕ) → eqb n m ≡ true → n ≡ m
 len_same n m e = grind (arith, common_steps)

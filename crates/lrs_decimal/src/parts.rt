@@ -8,7 +8,7 @@ ghost use Rattle.lrs_decimal.specs.declared.limits.TheConstants.{LONGEST_SPELLIN
 use crate::numbers::unsigned;
 
 // Where the exponent's e stands, or the end.
-fn e_place(bytes: &[u8]) -> usize
+fn e_offset(bytes: &[u8]) -> usize
     ensures within { result ≤ length bytes.now }
     ensures value { result ≡ prefix_len (λ b. not (is_e b)) bytes.now }
 {
@@ -20,7 +20,7 @@ fn e_place(bytes: &[u8]) -> usize
     bytes.len()
 }
 
-fn point_place(bytes: &[u8]) -> usize
+fn point_offset(bytes: &[u8]) -> usize
     ensures within { result ≤ length bytes.now }
     ensures value { result ≡ prefix_len (λ b. not (is_point b)) bytes.now }
 {
@@ -47,14 +47,14 @@ pub fn mantissa(spelling: &[u8]) -> &[u8]
     ensures value { result.now ≡ before is_e spelling.now }
     ensures shorter { length result.now ≤ length spelling.now }
 {
-    &spelling[..e_place(spelling)]
+    &spelling[..e_offset(spelling)]
 }
 
 /// What follows the e.
 fn exponent(spelling: &[u8]) -> &[u8]
     ensures { result.now ≡ behind is_e spelling.now }
 {
-    behind_first(&spelling[e_place(spelling)..])
+    behind_first(&spelling[e_offset(spelling)..])
 }
 
 pub fn exponent_digits(spelling: &[u8]) -> &[u8]
@@ -76,7 +76,7 @@ fn fraction(mantissa: &[u8]) -> &[u8]
     ensures value { result.now ≡ behind is_point mantissa.now }
     ensures shorter { length result.now ≤ length mantissa.now }
 {
-    behind_first(&mantissa[point_place(mantissa)..])
+    behind_first(&mantissa[point_offset(mantissa)..])
 }
 
 fn value_of(digits: &[u8]) -> usize
@@ -153,11 +153,11 @@ pub fn point_left(spelling: &[u8]) -> usize
     ensures value { result ≡ point_left spelling.now }
     ensures small { result ≤ 240_000 }
 {
-    let places = fraction(mantissa(spelling)).len();
+    let decimals = fraction(mantissa(spelling)).len();
     if has_negative_exponent(spelling) {
-        places + value_of(exponent_digits(spelling))
+        decimals + value_of(exponent_digits(spelling))
     } else {
-        places
+        decimals
     }
 }
 

@@ -34,7 +34,7 @@ const SPELLINGS: [(&str, bool); 23] = [
     ("NaN", false),
 ];
 
-// The place of the first row that is wrong.
+// The index of the first row that is wrong.
 fn wrong_spelling() -> Option<usize> {
     for (i, (text, wanted)) in SPELLINGS.iter().enumerate() {
         if Decimal::of(text.as_bytes()).is_some() != *wanted {

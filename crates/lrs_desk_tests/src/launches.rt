@@ -35,8 +35,8 @@ fn the_sample_session_is_launched(rt: HostRuntime) -> Result<(), Fail> {
     check_rows(rt.alloc(), SAMPLE)
 }
 
-// What a launch is asked with, and what isn't there. A launch over another makes a session of its own; its data takes the
-// place of the other's.
+// What a launch is asked with, and what isn't there. A launch over another makes a session of its own; its data replaces
+// the other's.
 const ASKED: &str = r#"
 sample
 admin POST /desk/registrations/ID10/launches {} => 400 {"error":"B1"}

@@ -21,7 +21,7 @@ admin GET /xapi/statements?statementId=ID60 => 404 {"error":"404"}
 // C1 before C2; a session doesn't void
 admin POST /xapi/statements {"actor":LEARNER,"verb":{"id":"VERB/voided"},"object":{"objectType":"StatementRef","id":"ID40"},"context":{"contextActivities":{"category":{"id":"CMI5"}}}} => 403 {"error":"C1"}
 TOKEN POST /xapi/statements {"actor":LEARNER,"verb":{"id":"VERB/voided"},"object":{"objectType":"StatementRef","id":"ID40"},"context":{"contextActivities":{"category":{"id":"CMI5"}}}} => 403 {"error":"C2"}
-// a category of another kind, and cmi5's at another place
+// a category of another kind, and cmi5's elsewhere
 admin PUT /xapi/statements?statementId=ID51 {"actor":LEARNER,"verb":{"id":"http://v/1"},"object":{"id":"http://a/1"},"context":{"contextActivities":{"category":[{"id":"CMI5/x"}],"other":{"id":"CMI5"}}}} => 204 kept
 // by id and in lists: the registration's
 TOKEN GET /xapi/statements?statementId=ID51 => 404 {"error":"404"}

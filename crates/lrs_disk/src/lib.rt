@@ -18,7 +18,7 @@ pub use disk::Disk;
 pub use door::{Door, Next};
 pub use failed::Failed;
 pub use link::Link;
-pub use lobby::{DoorsRefused, Lobby};
+pub use lobby::{DoorsRefused, Lobby, MOST_DOORS};
 pub use reading::copied;
 pub use shelf::Shelf;
 pub use streams::{Sink, Source};

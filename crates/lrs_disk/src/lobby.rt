@@ -6,6 +6,9 @@ ghost use Rattle.lrs_disk.specs.Readings.{AddsReading};
 use crate::Door;
 use std::alloc::Global;
 
+/// The most doors that a lobby gives at once.
+pub const MOST_DOORS: usize = 16;
+
 /// Why no doors were given.
 #[derive(Clone, Copy, Debug, PartialEq, Eq)]
 pub enum DoorsRefused {
@@ -45,7 +48,7 @@ pub trait Lobby: Drop {
         address: &str,
         count: usize,
     ) -> Result<Vec<Self::Door>, DoorsRefused>
-        requires { (1 ≤ count) × (count ≤ 16) }
+        requires { (1 ≤ count) × (count ≤ MOST_DOORS) }
         ensures number { IfOk result (λ doors. length doors.items ≡ count) }
         ensures fresh { IfOk result (λ doors. All (λ door. IsFresh (Self.Door.state door)) doors.items) }
         ensures asked { AsksForDoors (record { address = address.now; count = count }) result (asked self.old)

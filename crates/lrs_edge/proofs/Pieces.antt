@@ -42,8 +42,8 @@ read_front told offset count most piece few read b told_b = ap (λ (l : List ℕ
 -- of bytes that are all in it
 read_within : (start within offset count rest : ℕ) (piece b : List ℕ) → piece ≡ take (length piece) (drop start b) → start + within ≡ offset → length piece ≡ within + rest → count ≤ rest
     → take count (drop within piece) ≡ take count (drop offset b)
-read_within start within offset count rest piece b front place_is size few =
-    let behind : drop within (drop start b) ≡ drop offset b = drop-drop within start b ∙ ap (λ (k : ℕ). drop k b) place_is in
+read_within start within offset count rest piece b front offset_is size few =
+    let behind : drop within (drop start b) ≡ drop offset b = drop-drop within start b ∙ ap (λ (k : ℕ). drop k b) offset_is in
     let there : drop within piece ≡ take rest (drop offset b) =
     ap (λ (l : List ℕ). drop within l) front
     ∙ ap (λ (k : ℕ). drop within (take k (drop start b))) size
@@ -53,8 +53,8 @@ read_within start within offset count rest piece b front place_is size few =
 
 pub read_inside : (told : Option (List ℕ)) (start within offset count : ℕ) (piece : List ℕ) → IsPiece told start piece → start + within ≡ offset → within + count ≤ length piece
     → (b : List ℕ) → told ≡ Some b → take count (drop within piece) ≡ take count (drop offset b)
-read_inside told start within offset count piece is place_is fits b told_b =
-    read_within start within offset count (length piece - within) piece b (is.front b told_b) place_is (omega (arith, fits)) (omega (arith, fits))
+read_inside told start within offset count piece is offset_is fits b told_b =
+    read_within start within offset count (length piece - within) piece b (is.front b told_b) offset_is (omega (arith, fits)) (omega (arith, fits))
 
 -- ---- what was copied of a piece
 

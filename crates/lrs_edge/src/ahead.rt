@@ -68,7 +68,7 @@ impl<B: Bytes> ReadAhead<B> {
         &self.inner
     }
 
-    // Puts other bytes in their place.
+    // Puts other bytes there.
     pub(crate) fn replace(&mut self, inner: B)
         ensures { self.new ≡ inner }
     {

@@ -13,7 +13,7 @@ use Rattle.lrs_json.specs.Texts.{member_text}
 use Rattle.lrs_json.specs.View.{members_of}
 use Rattle.lrs_json.specs.Written.{written}
 use Rattle.lrs_fields.specs.Values.{HoldsActor, HoldsAgent}
-use Rattle.lrs_fields.proofs.Words.{IsUtf8-small}
+use Rattle.lrs_json.proofs.SmallBytes.{IsUtf8-small}
 
 -- ---- its parts, one after the other
 

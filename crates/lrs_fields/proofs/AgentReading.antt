@@ -9,7 +9,7 @@ use Rattle.lrs_decimal.specs.Numbers.{Ends}
 use Rattle.lrs_json.specs.Written.{escaped, quoted, written}
 use Rattle.lrs_json_reader.specs.declared.cursor.Stop.{Stop}
 use Rattle.lrs_json_reader.specs.declared.cursor.Stop.TheVariants.{Memory}
-use Rattle.lrs_fields.specs.Reading.{IsKept, MayFollowOptional, Reads, ReadsField, ReadsOptional, enclosed_text, field_text, identifier_text, optional_text}
+use Rattle.lrs_fields.specs.Reading.{IsKeptValue, MayFollowOptional, Reads, ReadsField, ReadsOptional, enclosed_text, field_text, identifier_text, optional_text}
 use Rattle.lrs_fields.specs.Values.{HoldsActor, HoldsAgent, actor_value, agent_value, text_value, value_json}
 use Rattle.lrs_fields.proofs.Differing.{differ_at}
 use Rattle.lrs_fields.proofs.Sequences.{before, behind, both_stand, both_text, closed, made, mapped, not_begun, not_closed, paired, two}
@@ -33,7 +33,7 @@ unfolding escaped
 account_parts own = simp append_assoc refl
 
 abbrev pub IsOpen : List ℕ × List ℕ → Type 0
-IsOpen = both_stand (IsKept text_value) (IsKept text_value)
+IsOpen = both_stand (IsKeptValue text_value) (IsKeptValue text_value)
 
 -- the two texts, without the brace
 abbrev pub open_account : List ℕ × List ℕ → List ℕ
@@ -42,7 +42,7 @@ open_account = both_text home name
 pub two_texts : (old mid new : List ℕ) (r s : Result (List ℕ) Stop) → ReadsField (codes "{\"homePage\":") text_value old r mid
     → OnOk r (ReadsField (codes ",\"name\":") text_value mid s new) → Reads open_account IsOpen Ends old (paired r s) new
 two_texts old mid new r s first second =
-    two home name (IsKept text_value) (IsKept text_value) Ends Ends old mid new r s first second (λ b rest is f. refl)
+    two home name (IsKeptValue text_value) (IsKeptValue text_value) Ends Ends old mid new r s first second (λ b rest is f. refl)
 
 one_account : (old new : List ℕ) (r : Result (List ℕ × List ℕ) Stop) → Reads (before open_account (125 ∷ [])) IsOpen Ends old r new
     → Reads account_text IsAccount Ends old (mapped (λ own. own) r) new
@@ -156,13 +156,13 @@ agent_parts (OpenId t) = refl
 agent_parts (Account h n) = refl
 
 one_agent : (old new : List ℕ) (r : Result Ifi Stop) → Reads (enclosed_text (codes "{")) HoldsAgent Ends old r new
-    → Reads (λ ifi. written (value_json (agent_value ifi))) (IsKept agent_value) Ends old (mapped (λ ifi. ifi) r) new
+    → Reads (λ ifi. written (value_json (agent_value ifi))) (IsKeptValue agent_value) Ends old (mapped (λ ifi. ifi) r) new
 one_agent old new r =
-    made (λ ifi. ifi) (enclosed_text (codes "{")) (λ ifi. written (value_json (agent_value ifi))) HoldsAgent (IsKept agent_value) Ends Ends old new r
+    made (λ ifi. ifi) (enclosed_text (codes "{")) (λ ifi. written (value_json (agent_value ifi))) HoldsAgent (IsKeptValue agent_value) Ends Ends old new r
     (λ ifi is. ((is, tt), sym (agent_parts ifi))) (λ ifi rest is whole. (ifi, is.0, refl)) (λ rest f. f)
 
 pub agent_read : (old new : List ℕ) (r : Result Ifi Stop) → Reads (enclosed_text (codes "{")) HoldsAgent Ends old r new
-    → Reads (λ ifi. written (value_json (agent_value ifi))) (IsKept agent_value) Ends old r new
+    → Reads (λ ifi. written (value_json (agent_value ifi))) (IsKeptValue agent_value) Ends old r new
 agent_read old new (Ok ifi) reads = one_agent old new (Ok ifi) reads
 agent_read old new (Err e) reads = one_agent old new (Err e) reads
 
@@ -175,7 +175,7 @@ abbrev pub named : Option (List ℕ) → List ℕ
 named = optional_text at_name text_value
 
 abbrev pub IsName : Option (List ℕ) → Type 0
-IsName o = IfSome o (IsKept text_value)
+IsName o = IfSome o (IsKeptValue text_value)
 
 name_apart : (ifi : Ifi) (rest more : List ℕ) → enclosed_text (codes ",") ifi ++ rest ≡ at_name ++ more → ⊥
 unfolding escaped
@@ -227,6 +227,6 @@ actor_read old new r =
     (λ own is. ((is.1, kept_name own.0 is.0), actor_parts own.0 own.1)) (λ actor rest is whole. ((actor.name, actor.ifi), (name_kept actor.name is.1, is.0), refl)) (λ rest f. f)
 
 pub kept_actor : (old new : List ℕ) (r : Result Agent Stop) → Reads (λ actor. written (agent_json actor)) HoldsActor Ends old r new
-    → Reads (λ actor. written (value_json (actor_value actor))) (IsKept actor_value) Ends old r new
+    → Reads (λ actor. written (value_json (actor_value actor))) (IsKeptValue actor_value) Ends old r new
 kept_actor old new (Ok a) reads = record { found = ((reads.found.0, tt), reads.found.1); all = λ b rest is f whole. reads.all b rest is.0 f whole }
 kept_actor old new (Err e) reads = record { found = tt; all = λ b rest is f whole. reads.all b rest is.0 f whole }

@@ -2,7 +2,7 @@
 use Rattle.std.proofs.Common.{ℕ, List, [], ◌∷◌, Bool, true, ◌&&◌, not}
 use Rattle.lrs_json.specs.Names.{is_among}
 use Rattle.lrs_fields.specs.Values.{Value}
-use Rattle.lrs_fields.proofs.Words.{are_small}
+use Rattle.lrs_json.proofs.SmallBytes.{are_small}
 
 -- Each name is ASCII, and none of those before it.
 abbrev pub are_apart : List (List ℕ) → List (List ℕ × Value) → Bool

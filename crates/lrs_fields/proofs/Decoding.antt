@@ -12,12 +12,13 @@ use Rattle.lrs_json.specs.Json.{Json, number, array}
 use Rattle.lrs_json.specs.Trees.{tree_of, trees_of}
 use Rattle.lrs_json.specs.declared.limits.TheConstants.{DEPTH}
 use Rattle.lrs_json.specs.declared.tree.Tree.{Tree}
+use Rattle.lrs_json.specs.Parts.{text_in}
 use Rattle.lrs_names.specs.Ids.{id_of}
 use Rattle.lrs_names.specs.Iris.{is_iri}
-use Rattle.lrs_names.specs.Members.{text_of, text_under}
+use Rattle.lrs_names.specs.Members.{text_under}
 
 abbrev pub id_in : Json → Option (List ℕ)
-id_in value = option_and_then id_of (text_of value)
+id_in value = option_and_then id_of (text_in value)
 
 -- with at most `DEPTH` levels
 abbrev pub tree_in : Json → Option Tree
@@ -32,11 +33,11 @@ abbrev pub iri_of : List ℕ → Option (List ℕ)
 iri_of text = if is_iri text then Some text else None
 
 abbrev pub iri_in : Json → Option (List ℕ)
-iri_in value = option_and_then iri_of (text_of value)
+iri_in value = option_and_then iri_of (text_in value)
 
 -- the bytes that digits spell, in either case
 abbrev pub bytes_in : Json → Option (List ℕ)
-bytes_in value = option_and_then (λ digits. result_ok (decode_of digits)) (text_of value)
+bytes_in value = option_and_then (λ digits. result_ok (decode_of digits)) (text_in value)
 
 -- the number below 2 ^ 32 whose decimal digits the spelling is
 unfoldable pub number_of : List ℕ → Option ℕ

@@ -9,12 +9,11 @@ use Rattle.lrs_json.specs.View.{elements_of, view}
 use Rattle.lrs_json.specs.Written.{quoted, written}
 use Rattle.lrs_json.specs.declared.limits.TheConstants.{DEPTH}
 use Rattle.lrs_json.specs.declared.tree.Tree.{Tree}
-use Rattle.lrs_json.specs.Trees.{tree_of}
-use Rattle.lrs_json.proofs.Back.{back}
+use Rattle.lrs_json.proofs.Back.{same_tree}
 use Rattle.lrs_json_reader.specs.Steps.{Finds}
 use Rattle.lrs_json_reader.specs.declared.cursor.Stop.{Stop}
 use Rattle.lrs_json_reader.specs.declared.cursor.Stop.TheVariants.{Memory}
-use Rattle.lrs_fields.specs.Reading.{IsKept, MayFollowOptional, Reads, ReadsField, ReadsOptional, ReadsSpelling, optional_text}
+use Rattle.lrs_fields.specs.Reading.{IsKeptValue, MayFollowOptional, Reads, ReadsField, ReadsOptional, ReadsSpelling, optional_text}
 use Rattle.lrs_fields.specs.Values.{AreLawfulTrees, Value, text_value, tree_value, trees_value, value_json}
 use Rattle.lrs_fields.proofs.Decimals.{Fits-decimal}
 use Rattle.lrs_fields.proofs.Sequences.{mapped}
@@ -25,7 +24,7 @@ pub text_read : (old new : List ℕ) (r : Result (List ℕ) Stop) → IfOk r (λ
     → ((t rest : List ℕ) → IsUtf8 t → old ≡ quoted t ++ rest → Finds r (λ u. (u ≡ t) × (new ≡ rest))) → Reads quoted IsUtf8 Ends old r new
 text_read old new r found all = record { found = found; all = λ t rest is f whole. all t rest is whole }
 
-pub kept_text : (old new : List ℕ) (r : Result (List ℕ) Stop) → Reads quoted IsUtf8 Ends old r new → Reads (λ t. written (value_json (text_value t))) (IsKept text_value) Ends old r new
+pub kept_text : (old new : List ℕ) (r : Result (List ℕ) Stop) → Reads quoted IsUtf8 Ends old r new → Reads (λ t. written (value_json (text_value t))) (IsKeptValue text_value) Ends old r new
 kept_text old new (Ok t) reads =
     record { found = ((reads.found.0, tt), reads.found.1); all = λ a rest is f whole. reads.all a rest is.0 f whole }
 kept_text old new (Err e) reads = record { found = tt; all = λ a rest is f whole. reads.all a rest is.0 f whole }
@@ -80,12 +79,9 @@ no_number spelling P old new e number all = record { found = tt; all = λ b rest
 
 -- ---- trees
 
-same_tree : (t u : Tree) → view t ≡ view u → t ≡ u
-same_tree t u same = sym (back t) ∙ ap tree_of same ∙ back u
-
 pub tree_read : (old new : List ℕ) (r : Result Tree Stop) → IfOk r (λ t. IsReadable DEPTH (view t) × (old ≡ written (view t) ++ new))
     → ((j : Json) (rest : List ℕ) → IsReadable DEPTH j → old ≡ written j ++ rest → Ends rest → Finds r (λ t. (view t ≡ j) × (new ≡ rest)))
-    → Reads (λ t. written (value_json (tree_value t))) (IsKept tree_value) Ends old r new
+    → Reads (λ t. written (value_json (tree_value t))) (IsKeptValue tree_value) Ends old r new
 tree_read old new (Ok t) found all =
     record {
       found = ((tt, found.0), found.1);
@@ -95,7 +91,7 @@ tree_read old new (Err e) found all = record { found = tt; all = λ u rest is f 
 
 pub trees_read : (old new : List ℕ) (r : Result (List Tree) Stop) → IfOk r (λ ts. AreLawfulTrees ts × (old ≡ written (array (elements_of (map view ts))) ++ new))
     → ((ts : List Tree) (rest : List ℕ) → AreLawfulTrees ts → old ≡ written (array (elements_of (map view ts))) ++ rest → Finds r (λ us. (us ≡ ts) × (new ≡ rest)))
-    → Reads (λ ts. written (value_json (trees_value ts))) (IsKept trees_value) Ends old r new
+    → Reads (λ ts. written (value_json (trees_value ts))) (IsKeptValue trees_value) Ends old r new
 trees_read old new (Ok ts) found all =
     record { found = ((tt, found.0), found.1); all = λ us rest is f whole. all us rest is.1 whole }
 trees_read old new (Err e) found all = record { found = tt; all = λ us rest is f whole. all us rest is.1 whole }
@@ -103,7 +99,7 @@ trees_read old new (Err e) found all = record { found = tt; all = λ us rest is 
 -- ---- fields that may be missing
 
 there_all : {A : Type 0} (front : List ℕ) (value : A → Value) (old mid new : List ℕ) (r : Result A Stop) → old ≡ front ++ mid → ReadsField [] value mid r new → (o : Option A) (rest : List ℕ)
-    → IfSome o (IsKept value) → MayFollowOptional front rest → old ≡ optional_text front value o ++ rest → Finds (mapped Some r) (λ b. (b ≡ o) × (new ≡ rest))
+    → IfSome o (IsKeptValue value) → MayFollowOptional front rest → old ≡ optional_text front value o ++ rest → Finds (mapped Some r) (λ b. (b ≡ o) × (new ≡ rest))
 there_all front value old mid new r took reads None rest is f whole = absurd (f.1 mid (sym whole ∙ took))
 there_all front value old mid new (Ok b) took reads (Some a) rest is f whole =
     let told = reads.all a rest is f.0 (append_cancel_left front mid (written (value_json (value a)) ++ rest) (sym took ∙ whole ∙ append_assoc front (written (value_json (value a))) rest)) in

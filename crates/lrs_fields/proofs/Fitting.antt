@@ -14,7 +14,8 @@ use Rattle.lrs_fields.proofs.Actors.{Fits-actor}
 use Rattle.lrs_fields.proofs.Apart.{are_apart}
 use Rattle.lrs_fields.proofs.Decimals.{Fits-decimal}
 use Rattle.lrs_fields.proofs.ManyTrees.{Fits-trees}
-use Rattle.lrs_fields.proofs.Words.{IsUtf8-digits, IsUtf8-small, are_small}
+use Rattle.lrs_json.proofs.SmallBytes.{IsUtf8-small, are_small}
+use Rattle.lrs_fields.proofs.Words.{IsUtf8-digits}
 
 Fits-agent : (ifi : Ifi) → HoldsAgent ifi → Fits (identifier_json ifi)
 Fits-agent (Mbox text) holds = (IsUtf8-small (codes "mbox") refl, refl, holds, tt)

@@ -1,33 +1,18 @@
 -- The digits of words and draws: that they are ASCII, what is read of them, and that they tell one from another.
-use Rattle.std.proofs.Common.{◌≡◌, ℕ, ◌<◌, ◌^◌, ◌==◌, List, [], ◌∷◌, length, take, drop, Result, Ok, Err, MatchResult, Option, Some, None, option_map, IsAscii, IsUtf8, Bool, true, false, nat_lt, ◌&&◌, arith, refl, sym, ap, ◌∙◌, length-append}
+use Rattle.std.proofs.Common.{◌≡◌, ℕ, ◌<◌, ◌^◌, ◌==◌, List, length, take, drop, Result, Ok, Err, MatchResult, Option, Some, None, option_map, IsUtf8, Bool, true, false, arith, refl, sym, ap, ◌∙◌, length-append}
 use Rattle.std.specs.Int.{from_be_bytes, to_be_bytes, w128}
 use Rattle.std.specs.Result.{result_ok}
-use Rattle.std.proofs.lemmas.Bool.{and_parts, false_from_ne_true}
+use Rattle.std.proofs.lemmas.Bool.{false_from_ne_true}
 use Rattle.std.proofs.lemmas.Bool.Decides.{nat_tests}
 use Rattle.std.proofs.Math.Seq.{take-append_seam, drop-append_seam}
 use Rattle.std.proofs.lemmas.Str.{IsUtf8-append, IsUtf8-from_ascii}
-use Rattle.std.proofs.lemmas.Str.Ascii.{IsAscii-cons, IsAscii-nil}
 use Rattle.hex.specs.Hex.{decode_of, decode_sized, encode_lower, lower_digits}
 use Rattle.hex.specs.declared.error.FromHexError.{FromHexError}
 use Rattle.hex.proofs.HexLemmas.{IsAscii-encode_with, decode_of-encode_lower, decode_sized-encode_lower, length-encode_with}
+use Rattle.lrs_json.proofs.SmallBytes.{IsAscii-small}
 use Rattle.lrs_names.proofs.WordBytes.{same_word, small_word_bytes, word_again}
 use Rattle.lrs_names.specs.declared.draw.Draw.{Draw}
 use Rattle.lrs_fields.specs.Digits.{HoldsDraw, draw_from, draw_of, draw_text, word_of, word_text}
-
-abbrev pub are_small : List ℕ → Bool
-are_small [] = true
-are_small (b ∷ bs) = nat_lt b 128 && are_small bs
-
-IsAscii-small : (bs : List ℕ) → are_small bs ≡ true → IsAscii bs
-IsAscii-small [] h = IsAscii-nil
-IsAscii-small (b ∷ bs) h =
-    let parts = and_parts (nat_lt b 128) (are_small bs) h in
-    let small : b < 128 = let test = parts.0 in grind (arith, nat_tests) in
-    IsAscii-cons b bs small (IsAscii-small bs parts.1)
-
--- of a text whose bytes are known: `IsUtf8-small _ refl`
-pub IsUtf8-small : (bs : List ℕ) → are_small bs ≡ true → IsUtf8 bs
-IsUtf8-small bs h = IsUtf8-from_ascii bs (IsAscii-small bs h)
 
 IsUtf8-word_text : (word : ℕ) → IsUtf8 (word_text word)
 unfolding word_text

@@ -26,15 +26,15 @@ pub record ReadsSpelling {A : Type 0} (spelling : A → List ℕ) (MayStand : A 
 -- ---- fields
 
 -- a value that may be kept in a field
-abbrev pub IsKept : {A : Type 0} → (A → Value) → A → Type 0
-IsKept value a = HoldsValue (value a) × IsLawfulValue (value a)
+abbrev pub IsKeptValue : {A : Type 0} → (A → Value) → A → Type 0
+IsKeptValue value a = HoldsValue (value a) × IsLawfulValue (value a)
 
 -- the value, behind the name of its field and what else stands before it
 abbrev pub field_text : {A : Type 0} → List ℕ → (A → Value) → A → List ℕ
 field_text front value a = front ++ written (value_json (value a))
 
 abbrev pub ReadsField : {A : Type 0} → List ℕ → (A → Value) → List ℕ → Result A Stop → List ℕ → Type 0
-ReadsField front value old r new = Reads (field_text front value) (IsKept value) Ends old r new
+ReadsField front value old r new = Reads (field_text front value) (IsKeptValue value) Ends old r new
 
 -- nothing, where there is no value
 abbrev pub optional_text : {A : Type 0} → List ℕ → (A → Value) → Option A → List ℕ
@@ -51,7 +51,7 @@ MayFollowOptional front rest = Ends rest × IsMissing front rest
 
 abbrev pub ReadsOptional : {A : Type 0} → List ℕ → (A → Value) → List ℕ → Result (Option A) Stop → List ℕ → Type 0
 ReadsOptional front value old r new =
-    Reads (optional_text front value) (λ o. IfSome o (IsKept value)) (MayFollowOptional front) old r new
+    Reads (optional_text front value) (λ o. IfSome o (IsKeptValue value)) (MayFollowOptional front) old r new
 
 -- the member that identifies, the first of its object
 abbrev pub identifier_text : Ifi → List ℕ

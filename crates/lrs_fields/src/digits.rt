@@ -3,7 +3,7 @@ ghost use Rattle.std.specs.Prelude.{◌≡◌, ◌↔◌, length, IfOk, IsTrue};
 ghost use Rattle.std.specs.Fmt.{decimal};
 ghost use Rattle.hex.specs.Hex.{IsBytes, encode_lower};
 ghost use Rattle.lrs_fields.specs.Digits.{HoldsDraw, draw_of, draw_text, word_of, word_text};
-ghost use Rattle.lrs_fields.specs.Reading.{IsKept, ReadsSpelling};
+ghost use Rattle.lrs_fields.specs.Reading.{IsKeptValue, ReadsSpelling};
 ghost use Rattle.lrs_fields.specs.Values.{number_value};
 ghost use Rattle.lrs_names.specs.Ids.{IsId, id_text};
 
@@ -134,7 +134,7 @@ fn are_same(one: &[u8], other: &[u8]) -> bool
 
 /// The number whose decimal digits these are.
 pub fn number_of(spelling: &str) -> Result<u32, Stop>
-    ensures { ReadsSpelling decimal (IsKept number_value) spelling.now result }
+    ensures { ReadsSpelling decimal (IsKeptValue number_value) spelling.now result }
 {
     match spelling.parse::<u32>() {
         Ok(number) => if is_printed(u64::from(number), spelling) {

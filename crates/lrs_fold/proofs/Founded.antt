@@ -1,7 +1,8 @@
 -- What founds a store is judged: its address is one.
-use Rattle.std.proofs.Common.{◌≡◌, ℕ, List, Bool, true, false, ◌&&◌, refl}
+use Rattle.std.proofs.Common.{◌≡◌, ℕ, List, true, ◌&&◌}
 use Rattle.std.specs.Prelude.{IsTrue, codes, nat_eq}
 use Rattle.std.specs.List.{list_all, ends_with}
+use Rattle.std.specs.Cmp.{first_so, second_so}
 use Rattle.lrs_reads.specs.LrsRefusalsJudged.{IsJudged}
 use Rattle.lrs_reads.specs.LrsHistoryHistory.{IsFounding, founds, is_operator, is_zero}
 use Rattle.lrs_names.specs.Iris.{is_iri}
@@ -10,23 +11,15 @@ use Rattle.lrs_record.specs.declared.entry.Entry.{Entry}
 use Rattle.lrs_record.specs.declared.entry.Write.{Write}
 use Rattle.lrs_record.specs.declared.entry.Write.TheVariants.{Found}
 
-left : (a b : Bool) → a && b ≡ true → a ≡ true
-left true b is = refl
-left false b is = is
-
-right : (a b : Bool) → a && b ≡ true → b ≡ true
-right true b is = is
-right false b is = cc is
-
 -- the address of a store is an IRI
 pub base_is_iri : (base : List ℕ) → IsBase base → IsTrue (is_iri base)
 base_is_iri base is =
-    right (is_of_the_web base && ends_with nat_eq base (codes "/") && list_all is_no_separator base) (is_iri base)
-    (left (has_base_form base) _ is)
+    second_so (is_of_the_web base && ends_with nat_eq base (codes "/") && list_all is_no_separator base) (is_iri base)
+    (first_so (has_base_form base) _ is)
 
 founds_judged : (w : Write) → founds w ≡ true → IsJudged w
-founds_judged (Found admin base) is = right (is_token admin) (is_base base) is
+founds_judged (Found admin base) is = second_so (is_token admin) (is_base base) is
 founds_judged other is = absurd (cc is)
 
 pub founding_judged : (e : Entry) → IsFounding e → IsJudged e.write
-founding_judged e is = founds_judged e.write (right (is_operator e.caller && is_zero e.draw) (founds e.write) is)
+founding_judged e is = founds_judged e.write (second_so (is_operator e.caller && is_zero e.draw) (founds e.write) is)

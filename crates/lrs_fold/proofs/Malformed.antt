@@ -11,7 +11,7 @@ use Rattle.lrs_reads.specs.LrsHistoryAnswers.{write_said}
 use Rattle.lrs_reads.specs.LrsHistoryEffects.{effect}
 use Rattle.lrs_reads.specs.LrsHistoryHistory.{next_entry, outcome, outcome_by, refused, refused_or, Said}
 use Rattle.lrs_reads.specs.LrsHistoryOccasions.{occasion}
-use Rattle.lrs_reads.specs.LrsHistoryRefusals.{bad_role, barred, conflict, missing, unmergeable}
+use Rattle.lrs_reads.specs.LrsHistoryRefusals.{barred_document, barred, conflict, missing, unmergeable}
 use Rattle.lrs_reads.specs.LrsHistoryWhose.{who_is}
 use Rattle.lrs_reads.specs.LrsRefusalsSubmissions.{IsMalformed}
 use Rattle.lrs_record.specs.Writes.{write_area}
@@ -31,7 +31,7 @@ pub told_malformed : (st : State) (caller : Caller) (c : Command) (clock : ℕ) 
     → outcome st caller c clock draw ≡ Said (refused_or (barred area (who_is st caller)) (refused r))
 told_malformed st caller (command.Write write) clock draw area r is =
     let e = next_entry st caller write clock draw in
-    let rest = bad_role st (occasion st e).by write ∷ missing st write ∷ unmergeable st write ∷ conflict st (occasion st e) write ∷ [] in
+    let rest = barred_document st (occasion st e).by write ∷ missing st write ∷ unmergeable st write ∷ conflict st (occasion st e) write ∷ [] in
     let same = when (changes_nothing (effect st e)) (write_said (effect st e)) in
     ap (λ (o : Option Refusal). outcome_by (option_or (option_map refused (first_some (barred (write_area write) (who_is st caller) ∷ o ∷ rest))) same) e (write_said (effect st e))) is.1
     ∙ by_caller (barred (write_area write) (who_is st caller)) r rest same e (write_said (effect st e))

@@ -10,7 +10,7 @@ use Rattle.lrs_learning.specs.LrsStateEffectEffect.{Effect}
 use Rattle.lrs_reads.specs.LrsHistoryEffects.{effect, effect_of, owed_in_session, with_owed}
 use Rattle.lrs_reads.specs.LrsHistoryOccasions.{Occasion, supply_in}
 use Rattle.lrs_reads.specs.LrsHistoryWhose.{authority_of, launch_of, who_is}
-use Rattle.lrs_reads.specs.LrsRefusalsKnown.{IsBatch, IsKnown, TellHeld, leading_new}
+use Rattle.lrs_reads.specs.LrsRefusalsKnown.{IsKnown, TellHeld, leading_new}
 use Rattle.lrs_reads.specs.LrsRefusalsKnownBatch.{Batch}
 use Rattle.lrs_reads.specs.LrsRefusalsKnownKnown.{Known}
 use Rattle.lrs_reads.specs.LrsRefusalsKnownKnownTheVariants as known
@@ -23,7 +23,7 @@ use Rattle.lrs_record.specs.declared.entry.Write.TheVariants as write
 use Rattle.lrs_replies.specs.Texts.{token_text}
 use Rattle.xapi_index.specs.Ahead.{AreTextsOf}
 use Rattle.xapi_index.specs.Batches.{WithId, held_of, ids_under, kept_by, supply_behind, supply_after, with_ids}
-use Rattle.xapi_statement.specs.Statements.{is_held, new_ones}
+use Rattle.xapi_statement.specs.Statements.{new_ones}
 use Rattle.xapi_statement.specs.declared.Authority.{Authority}
 use Rattle.xapi_statement.specs.Stored.{StoredStatement}
 use Rattle.xapi_statement.specs.Statement.{own_id}

@@ -6,6 +6,7 @@ use Rattle.lrs_json.specs.View.{view}
 use Rattle.lrs_json.specs.declared.tree.Tree.{Tree}
 use Rattle.lrs_generator.specs.Generated.{batch, number_at, statement_json, statement_of}
 use Rattle.lrs_generator.specs.Progress.{AreMade, IsProgress}
+use Rattle.lrs_generator.specs.declared.generator.TheConstants.{BATCH}
 
 -- ---- one by one
 
@@ -31,14 +32,14 @@ one_more_made seed first done index trees more number next at pushed moved so_fa
 
 -- ---- batch by batch
 
-pub made_batch : (seed n j first many number : ℕ) (trees : List Tree) → first ≡ j * 100 → many ≡ min 100 (n - first) → AreMade seed first many trees number → map view trees ≡ batch seed n j
+pub made_batch : (seed n j first many number : ℕ) (trees : List Tree) → first ≡ j * BATCH → many ≡ min BATCH (n - first) → AreMade seed first many trees number → map view trees ≡ batch seed n j
 made_batch seed n j first many number trees begins long made =
-    made.made ∙ ap (λ k. map (statement_json seed) (range_with_len first k)) long ∙ ap (λ a. map (statement_json seed) (range_with_len a (min 100 (n - a)))) begins
+    made.made ∙ ap (λ k. map (statement_json seed) (range_with_len first k)) long ∙ ap (λ a. map (statement_json seed) (range_with_len a (min BATCH (n - a)))) begins
 
 pub begun : (seed n : ℕ) → IsProgress seed n 0 seed
 begun seed n = record { ahead = λ some. refl }
 
-pub goes_on : (seed n j first many number : ℕ) (trees : List Tree) → first ≡ j * 100 → many ≡ min 100 (n - first) → AreMade seed first many trees number → IsProgress seed n (j + 1) number
+pub goes_on : (seed n j first many number : ℕ) (trees : List Tree) → first ≡ j * BATCH → many ≡ min BATCH (n - first) → AreMade seed first many trees number → IsProgress seed n (j + 1) number
 goes_on seed n j first many number trees begins long made = record {
-  ahead = λ more. let whole : first + many ≡ (j + 1) * 100 = omega arith in made.behind ∙ ap (number_at seed) whole;
+  ahead = λ more. let whole : first + many ≡ (j + 1) * BATCH = omega arith in made.behind ∙ ap (number_at seed) whole;
 }

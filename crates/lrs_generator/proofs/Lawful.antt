@@ -4,7 +4,6 @@ use Rattle.std.specs.Fmt.{decimal}
 use Rattle.std.specs.List.{AllByRecursion, range_with_len}
 use Rattle.std.specs.Prelude.{◌==◌, if◌then◌else◌, nat_lt}
 use Rattle.std.specs.Str.{bytes_eq, chars}
-use Rattle.std.specs.Cmp.Lexicographic.{same_text}
 use Rattle.std.proofs.lemmas.Bool.Decides.{nat_tests}
 use Rattle.std.proofs.lemmas.List.{length-map}
 use Rattle.std.proofs.lemmas.List.Elements.{All-from_get_or}
@@ -13,6 +12,7 @@ use Rattle.std.specs.Int.{bytes_high_first}
 use Rattle.uuid.proofs.TextLemmas.{by_index_length}
 use Rattle.lrs_agents.specs.Agents.{agent_faults, agent_or_group_faults}
 use Rattle.lrs_ids.specs.Ids.{are_distinct}
+use Rattle.lrs_ids.proofs.FreshLemmas.{differs}
 use Rattle.lrs_json.specs.Find.{find}
 use Rattle.lrs_json.specs.Json.{Json, object, string, Members, no_members, member}
 use Rattle.lrs_json.specs.View.{members_of, view}
@@ -29,12 +29,13 @@ use Rattle.xapi_index.specs.Batches.{given_ids, with_given}
 use Rattle.xapi_rules.specs.Nulls.{has_null, role_of_member}
 use Rattle.xapi_rules.specs.Objects.{activity_faults, is_activity, is_reference}
 use Rattle.xapi_rules.specs.Rules.{action_faults, actor_faults, are_timestamps, broken_rule, form_faults, is_about_reference, is_fit_revision, is_verb, is_voided_verb, is_voiding, object_faults, own_faults, shared_faults, statement_faults, verb_faults, voids_reference}
-use Rattle.xapi_rules.specs.declared.nulls.Role.TheVariants.{Plain, Object}
+use Rattle.xapi_rules.specs.declared.nulls.NullRole.TheVariants.{Plain, Object}
 use Rattle.xapi_statement.specs.Statement.{has_context_activity, is_too_long, own_id}
 use Rattle.xapi_values.specs.Kinds.{kind_of}
 use Rattle.lrs_generator.specs.Generated.{batch, batch_count, id_at, id_json, length_of_batch, number_at, object_json, reference_json, statement_json, verb_iri}
 use Rattle.lrs_generator.proofs.Lengths.{end_short, member_short, object_short, string_short, within}
 use Rattle.lrs_generator.proofs.Spelled.{activity_is_iri, short_decimal, verb_is_iri, voided_is_iri}
+use Rattle.lrs_generator.specs.declared.generator.TheConstants.{BATCH}
 
 -- ---- ids
 
@@ -165,12 +166,12 @@ wider : (n : ℕ) → n ≤ 368 → n ≤ 734
 wider n few = omega arith
 
 are_sound : (seed i x : ℕ) → AreSound (id_json (verb_iri i x)) (object_json seed i x)
-are_sound seed i x = by_place (i % 50 == 49) (i % 10 == 9)
+are_sound seed i x = by_index (i % 50 == 49) (i % 10 == 9)
   where
-    by_place : (v r : Bool)
+    by_index : (v r : Bool)
         → AreSound (id_json (if v then codes "http://adlnet.gov/expapi/verbs/voided" else codes "http://v.invalid/" ++ decimal (x / 2 ^ 33 % 7)))
         (if v then reference_json (id_at seed (i - 2)) else (if r then reference_json (id_at seed (i - 1)) else id_json (codes "http://a.invalid/" ++ decimal (x / 2 ^ 40 % 50))))
-    by_place true r = record {
+    by_index true r = record {
       verb_unbroken = named_unbroken (codes "http://adlnet.gov/expapi/verbs/voided") voided_is_iri;
       subject_unbroken = reference_unbroken (id_at seed (i - 2)) (is_read seed (i - 2));
       fit = voided_fits (id_at seed (i - 2));
@@ -179,7 +180,7 @@ are_sound seed i x = by_place (i % 50 == 49) (i % 10 == 9)
       verb_short = named_short (codes "http://adlnet.gov/expapi/verbs/voided") (within 50 (codes "http://adlnet.gov/expapi/verbs/voided") refl);
       subject_short = reference_short (id_at seed (i - 2));
     }
-    by_place false true = record {
+    by_index false true = record {
       verb_unbroken = named_unbroken (codes "http://v.invalid/" ++ decimal (x / 2 ^ 33 % 7)) (other_iri x);
       subject_unbroken = reference_unbroken (id_at seed (i - 1)) (is_read seed (i - 1));
       fit = other_fits (decimal (x / 2 ^ 33 % 7)) (reference_json (id_at seed (i - 1)));
@@ -188,7 +189,7 @@ are_sound seed i x = by_place (i % 50 == 49) (i % 10 == 9)
       verb_short = other_short x;
       subject_short = reference_short (id_at seed (i - 1));
     }
-    by_place false false = record {
+    by_index false false = record {
       verb_unbroken = named_unbroken (codes "http://v.invalid/" ++ decimal (x / 2 ^ 33 % 7)) (other_iri x);
       subject_unbroken = activity_unbroken (codes "http://a.invalid/" ++ decimal (x / 2 ^ 40 % 50)) (activity_is_iri (x / 2 ^ 40 % 50) (omega arith));
       fit = other_fits (decimal (x / 2 ^ 33 % 7)) (id_json (codes "http://a.invalid/" ++ decimal (x / 2 ^ 40 % 50)));
@@ -285,9 +286,6 @@ apart seed i k seeds less few e =
     let same : seed * 2 ^ 32 + k ≡ seed * 2 ^ 32 + i = same_id_word (seed * 2 ^ 32 + k) (seed * 2 ^ 32 + i) (omega arith) (omega arith) e in
     omega arith
 
-differs : (xs ys : List ℕ) → (xs ≡ ys → ⊥) → bytes_eq xs ys ≡ false
-differs xs ys ne = elim (bytes_eq xs ys) as (λ b. bytes_eq xs ys ≡ b → b ≡ false) [ true ↦ λ e. absurd (ne (same_text xs ys (sym e))) | false ↦ λ e. refl ] refl
-
 none_later : (seed i a n : ℕ) → seed < 2 ^ 64 → i < a → a + n ≤ 2 ^ 32 → is_one_of (map (id_at seed) (range_with_len a n)) (id_at seed i) ≡ false
 none_later seed i a zero seeds less few = refl
 none_later seed i a (suc n) seeds less few =
@@ -334,22 +332,22 @@ each P seed a (suc n) (t ∷ ts) holds e =
 
 -- ---- of batches
 
-inside : (n j : ℕ) → j < batch_count n → j * 100 + length_of_batch n j ≤ n
+inside : (n j : ℕ) → j < batch_count n → j * BATCH + length_of_batch n j ≤ n
 inside n j left = omega arith
 
 pub each_of_batch : (P : Json → Type 0) (seed n j : ℕ) (trees : List Tree) → j < batch_count n → ((i : ℕ) → i < n → P (statement_json seed i)) → map view trees ≡ batch seed n j
     → AllByRecursion (λ (t : Tree). P (view t)) trees
 each_of_batch P seed n j trees left holds e =
-    let within_n : j * 100 + length_of_batch n j ≤ n = inside n j left in
-    each P seed (j * 100) (length_of_batch n j) trees (λ i less. holds i (omega arith)) e
+    let within_n : j * BATCH + length_of_batch n j ≤ n = inside n j left in
+    each P seed (j * BATCH) (length_of_batch n j) trees (λ i less. holds i (omega arith)) e
 
 pub distinct_batch : (seed n j : ℕ) (trees : List Tree) → seed < 2 ^ 64 → n < 2 ^ 32 → j < batch_count n → map view trees ≡ batch seed n j → are_distinct (given_ids trees) ≡ true
 distinct_batch seed n j trees seeds few left e =
-    let within_n : j * 100 + length_of_batch n j ≤ n = inside n j left in
-    ap are_distinct (ids_given seed (j * 100) (length_of_batch n j) trees e) ∙ distinct_ids seed (j * 100) (length_of_batch n j) seeds (omega arith)
+    let within_n : j * BATCH + length_of_batch n j ≤ n = inside n j left in
+    ap are_distinct (ids_given seed (j * BATCH) (length_of_batch n j) trees e) ∙ distinct_ids seed (j * BATCH) (length_of_batch n j) seeds (omega arith)
 
-pub few_trees : (seed n j : ℕ) (trees : List Tree) → map view trees ≡ batch seed n j → length trees ≤ 100
+pub few_trees : (seed n j : ℕ) (trees : List Tree) → map view trees ≡ batch seed n j → length trees ≤ BATCH
 few_trees seed n j trees e =
     let same : length trees ≡ length_of_batch n j =
-    sym (length-map trees view) ∙ ap (λ (js : List Json). length js) e ∙ length-map (range_with_len (j * 100) (length_of_batch n j)) (statement_json seed) ∙ length-range_with_len (j * 100) (length_of_batch n j) in
+    sym (length-map trees view) ∙ ap (λ (js : List Json). length js) e ∙ length-map (range_with_len (j * BATCH) (length_of_batch n j)) (statement_json seed) ∙ length-range_with_len (j * BATCH) (length_of_batch n j) in
     omega arith

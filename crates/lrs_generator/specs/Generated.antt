@@ -6,6 +6,7 @@ use Rattle.std.specs.List.{range_with_len}
 use Rattle.lrs_json.specs.Json.{Json, object, string}
 use Rattle.lrs_json.specs.View.{members_of}
 use Rattle.lrs_names.specs.Ids.{id_of_word, id_text}
+use Rattle.lrs_generator.specs.declared.generator.TheConstants.{BATCH}
 
 -- the number from which the i-th statement is made
 abbrev pub number_at : ℕ → ℕ → ℕ
@@ -62,14 +63,14 @@ statement_json seed i = statement_of seed i (number_at seed i)
 
 -- ---- batches
 
--- How many statements batch j of n statements has: a hundred, but in the last.
+-- How many statements batch j of n statements has: BATCH, but in the last.
 abbrev pub length_of_batch : ℕ → ℕ → ℕ
-length_of_batch n j = min 100 (n - j * 100)
+length_of_batch n j = min BATCH (n - j * BATCH)
 
 -- the statements of batch j
 abbrev pub batch : ℕ → ℕ → ℕ → List Json
-batch seed n j = map (statement_json seed) (range_with_len (j * 100) (length_of_batch n j))
+batch seed n j = map (statement_json seed) (range_with_len (j * BATCH) (length_of_batch n j))
 
 -- how many batches n statements make
 abbrev pub batch_count : ℕ → ℕ
-batch_count n = (n + 99) / 100
+batch_count n = (n + (BATCH - 1)) / BATCH

@@ -79,7 +79,7 @@ impl Generator {
 
 // How long the next batch is where so many statements are left.
 fn next_length(left: u64) -> u64
-    ensures { result ≡ min 100 left }
+    ensures { result ≡ min BATCH left }
 {
     (BATCH as u64).min(left)
 }

@@ -6,7 +6,7 @@ use Rattle.lrs_hall.specs.Acts.{ActsIn, ActsOn, Reach, SeenAndClock}
 use Rattle.lrs_hall.specs.Conversation.{Worker}
 use Rattle.lrs_hall.specs.Serving.{AddsReadings, AreOnLinks, IsWholeTalk, all_receipts, clocks}
 use Rattle.lrs_hall.specs.Talks.{Talk}
-use Rattle.lrs_hall.proofs.Conversing.{FrontGoesOn, Reads, goes_on, reads}
+use Rattle.lrs_hall.proofs.Conversing.{FrontGoesOn, AddsClocks, goes_on, reads}
 use Rattle.lrs_hall.proofs.Talking.{all_seen, over_all, over_whole, talk_seen}
 use Rattle.lrs_hall.proofs.Translating.{IsBegun, acts_in, begun_before, reach_of}
 
@@ -23,7 +23,7 @@ module _ (limit : ℕ) where
 
   module _ (stream : Option (List ℕ)) (talk : Talk) (out : List ℕ) (old new : Worker SeenAndClock) (whole : IsWholeTalk (ActsOn limit) stream talk out old new) where
     pub talk_reads : AddsReadings old.reached.readings new.reached.readings (clocks talk.receipts)
-    talk_reads = over_whole (ActsOn limit) (Reads limit) (reads limit) _ talk.receipts out talk.finish old new whole
+    talk_reads = over_whole (ActsOn limit) (AddsClocks limit) (reads limit) _ talk.receipts out talk.finish old new whole
 
     pub talk_goes_on : BeginsWith old.reached.seen.front new.reached.seen.front
     talk_goes_on = over_whole (ActsOn limit) (FrontGoesOn limit) (goes_on limit) _ talk.receipts out talk.finish old new whole
@@ -39,7 +39,7 @@ module _ (limit : ℕ) where
 
   module _ (talks : List Talk) (links : List Returned) (old new : Worker SeenAndClock) (all : AreOnLinks (ActsOn limit) talks links old new) where
     pub all_read : AddsReadings old.reached.readings new.reached.readings (clocks (all_receipts talks))
-    all_read = over_all (ActsOn limit) (Reads limit) (reads limit) talks links old new all
+    all_read = over_all (ActsOn limit) (AddsClocks limit) (reads limit) talks links old new all
 
     pub all_go_on : BeginsWith old.reached.seen.front new.reached.seen.front
     all_go_on = over_all (ActsOn limit) (FrontGoesOn limit) (goes_on limit) talks links old new all

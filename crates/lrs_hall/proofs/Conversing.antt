@@ -12,7 +12,7 @@ use Rattle.lrs_hall.proofs.Translating.{front_later}
 
 -- ---- the clock
 
-reads_none : (x : Option (List ℕ)) → AddsReadings x x []
+pub reads_none : (x : Option (List ℕ)) → AddsReadings x x []
 reads_none None = tt
 reads_none (Some a) = sym (append-nil a)
 
@@ -26,10 +26,10 @@ reads_one (Some a) (Some b) (Some c) k ks first more = more ∙ ap (λ (l : List
 -- ---- from one act to the next
 
 module _ (limit : ℕ) where
-  abbrev pub Reads : List Receipt → SeenAndClock → SeenAndClock → Type 0
-  Reads receipts old new = AddsReadings old.readings new.readings (clocks receipts)
+  abbrev pub AddsClocks : List Receipt → SeenAndClock → SeenAndClock → Type 0
+  AddsClocks receipts old new = AddsReadings old.readings new.readings (clocks receipts)
 
-  pub reads : Carries (ActsOn limit) Reads
+  pub reads : Carries (ActsOn limit) AddsClocks
   reads = record {
     none = λ x. reads_none x.readings;
     plain = λ status receipt receipts old new none more.

@@ -1,7 +1,6 @@
 -- A conversation goes on.
 use Rattle.std.proofs.Common.{◌≡◌, ◌-◌, ℕ, List, [], ◌∷◌, ◌++◌, Option, Some, None, option_map, subst, sym, ◌∙◌, ap, refl, append_assoc, append-nil}
 use Rattle.lrs_http.specs.Links.{stream_left}
-use Rattle.lrs_http.specs.Stream.{most_requests}
 use Rattle.lrs_machine.specs.Acts.{Receipt}
 use Rattle.lrs_hall.specs.declared.exchange.Exchanged.{Exchanged}
 use Rattle.lrs_hall.specs.declared.exchange.Exchanged.TheVariants.{Next, Last}
@@ -11,21 +10,19 @@ use Rattle.lrs_hall.specs.Conversation.{ActOn, Worker, going, ended_with, Conver
 use Rattle.lrs_hall.specs.Serving.{IsWholeTalk}
 use Rattle.lrs_hall.specs.Steps.{Exchanges}
 use Rattle.lrs_hall.specs.Talks.{Talk}
+use Rattle.lrs_http.specs.declared.reading.TheConstants.{MOST_REQUESTS}
+use Rattle.lrs_http.proofs.SendLemmas.{nothing_more}
 
 -- What was said so far, so that what follows makes a whole conversation.
 pub record SoFar {X : Type 0} (acts : ActOn X) (start : Worker X) (stream before : Option (List ℕ)) (most : ℕ) (left : Option (List ℕ)) (receipts : List Receipt) (taken : Option (List ℕ)) (now : Worker X) : Type 0 where
   pub out : List ℕ
   pub sent : taken ≡ option_map (λ bytes. bytes ++ out) before
   pub goes : (more : List Receipt) (rest : List ℕ) (f : Finish) (end : Worker X)
-      → Converses acts (going most left) more rest f now end → Converses acts (going most_requests stream) (receipts ++ more) (out ++ rest) f start end
+      → Converses acts (going most left) more rest f now end → Converses acts (going MOST_REQUESTS stream) (receipts ++ more) (out ++ rest) f start end
 
 -- a whole conversation, and what the link took of it
 abbrev pub IsHeld : {X : Type 0} → ActOn X → Worker X → Option (List ℕ) → Option (List ℕ) → Talk → Option (List ℕ) → Worker X → Type 0
 IsHeld acts start stream before talk taken end = (out : List ℕ) × (taken ≡ option_map (λ bytes. bytes ++ out) before) × IsWholeTalk acts stream talk out start end
-
-pub map_nothing : (before : Option (List ℕ)) → before ≡ option_map (λ bytes. bytes ++ []) before
-map_nothing None = refl
-map_nothing (Some bytes) = ap Some (sym (append-nil bytes))
 
 pub map_more : (before : Option (List ℕ)) (a b : List ℕ) → option_map (λ bytes. bytes ++ b) (option_map (λ bytes. bytes ++ a) before) ≡ option_map (λ bytes. bytes ++ (a ++ b)) before
 map_more None a b = refl
@@ -35,19 +32,19 @@ pub nothing_kept : (left : Option (List ℕ)) → stream_left [] left ≡ left
 nothing_kept None = refl
 nothing_kept (Some bytes) = refl
 
-pub so_far_none : {X : Type 0} (acts : ActOn X) (start : Worker X) (stream before : Option (List ℕ)) → SoFar acts start stream before most_requests (stream_left [] stream) [] before start
+pub so_far_none : {X : Type 0} (acts : ActOn X) (start : Worker X) (stream before : Option (List ℕ)) → SoFar acts start stream before MOST_REQUESTS (stream_left [] stream) [] before start
 so_far_none acts start stream before = record {
   out = [];
-  sent = map_nothing before;
-  goes = λ more rest f end talks. subst (λ left. Converses acts (going most_requests left) more rest f start end) (nothing_kept stream) talks;
+  sent = nothing_more before;
+  goes = λ more rest f end talks. subst (λ left. Converses acts (going MOST_REQUESTS left) more rest f start end) (nothing_kept stream) talks;
 }
 
 -- before the first request nothing was read and nothing answered
 pub so_far_begun : {X : Type 0} (acts : ActOn X) (start : Worker X) (stream before : Option (List ℕ)) (kept : List ℕ) (receipts : List Receipt) → kept ≡ [] → receipts ≡ []
-    → SoFar acts start stream before most_requests (stream_left kept stream) receipts before start
+    → SoFar acts start stream before MOST_REQUESTS (stream_left kept stream) receipts before start
 so_far_begun acts start stream before kept receipts none empty =
-    subst (λ (rs : List Receipt). SoFar acts start stream before most_requests (stream_left kept stream) rs before start) (sym empty)
-    (subst (λ (bytes : List ℕ). SoFar acts start stream before most_requests (stream_left bytes stream) [] before start) (sym none) (so_far_none acts start stream before))
+    subst (λ (rs : List Receipt). SoFar acts start stream before MOST_REQUESTS (stream_left kept stream) rs before start) (sym empty)
+    (subst (λ (bytes : List ℕ). SoFar acts start stream before MOST_REQUESTS (stream_left bytes stream) [] before start) (sym none) (so_far_none acts start stream before))
 
 -- the limit stays
 pub exchanges_same : (most : ℕ) (left after taken took : Option (List ℕ)) (old new : Worker SeenAndClock) (exchanged : Exchanged) (marks later : List ℕ) → later ≡ marks
@@ -62,8 +59,8 @@ so_far_next acts start now new stream before left after taken took most receipts
   out = so.out ++ turn.0;
   sent = turn.2 ∙ ap (option_map (λ bytes. bytes ++ turn.0)) so.sent ∙ map_more before so.out turn.0;
   goes = λ more rest f end talks.
-      subst (λ rs. Converses acts (going most_requests stream) rs ((so.out ++ turn.0) ++ rest) f start end) (sym (append_assoc receipts (receipt ∷ []) more))
-      (subst (λ o. Converses acts (going most_requests stream) (receipts ++ receipt ∷ more) o f start end) (sym (append_assoc so.out turn.0 rest))
+      subst (λ rs. Converses acts (going MOST_REQUESTS stream) rs ((so.out ++ turn.0) ++ rest) f start end) (sym (append_assoc receipts (receipt ∷ []) more))
+      (subst (λ o. Converses acts (going MOST_REQUESTS stream) (receipts ++ receipt ∷ more) o f start end) (sym (append_assoc so.out turn.0 rest))
       (so.goes (receipt ∷ more) (turn.0 ++ rest) f end (turn.0, rest, going (most - 1) after, new, refl, turn.1, talks)));
 }
 
@@ -73,8 +70,8 @@ pub held_last : {X : Type 0} (acts : ActOn X) (start now new : Worker X) (stream
 held_last acts start now new stream before left after taken took most receipts receipt f talk so turn told ends = (
   so.out ++ (turn.0 ++ []),
   turn.2 ∙ ap (λ o. option_map (λ bytes. bytes ++ o) taken) (sym (append-nil turn.0)) ∙ ap (option_map (λ bytes. bytes ++ (turn.0 ++ []))) so.sent ∙ map_more before so.out (turn.0 ++ []),
-  subst (λ rs. Converses acts (going most_requests stream) rs (so.out ++ (turn.0 ++ [])) talk.finish start new) (sym told)
-      (subst (λ g. Converses acts (going most_requests stream) (receipts ++ receipt ∷ []) (so.out ++ (turn.0 ++ [])) g start new) (sym ends)
+  subst (λ rs. Converses acts (going MOST_REQUESTS stream) rs (so.out ++ (turn.0 ++ [])) talk.finish start new) (sym told)
+      (subst (λ g. Converses acts (going MOST_REQUESTS stream) (receipts ++ receipt ∷ []) (so.out ++ (turn.0 ++ [])) g start new) (sym ends)
       (so.goes (receipt ∷ []) (turn.0 ++ []) f new (turn.0, [], ended_with f, new, refl, turn.1, (refl, refl, refl)))),
 )
 
@@ -84,8 +81,8 @@ pub held_silent : {X : Type 0} (acts : ActOn X) (start now new : Worker X) (stre
 held_silent acts start now new stream before left taken took most receipts f talk so ends same_now same told is = (
   so.out ++ [],
   same ∙ so.sent ∙ ap (λ o. option_map (λ bytes. bytes ++ o) before) (sym (append-nil so.out)),
-  subst (λ rs. Converses acts (going most_requests stream) rs (so.out ++ []) talk.finish start new) (append-nil receipts ∙ sym told)
-      (subst (λ g. Converses acts (going most_requests stream) (receipts ++ []) (so.out ++ []) g start new) (sym is)
+  subst (λ rs. Converses acts (going MOST_REQUESTS stream) rs (so.out ++ []) talk.finish start new) (append-nil receipts ∙ sym told)
+      (subst (λ g. Converses acts (going MOST_REQUESTS stream) (receipts ++ []) (so.out ++ []) g start new) (sym is)
       (so.goes [] [] f new (refl, ends, same_now))),
 )
 

@@ -8,7 +8,7 @@ use Rattle.std.proofs.lemmas.List.{take-append-drop}
 use prog.Atomic.{either}
 use Rattle.lrs_machine.specs.LrsHistoryHistory.{Answer, answer}
 use Rattle.lrs_machine.specs.Line.{Record, entries, sure, with_made}
-use Rattle.lrs_machine.specs.Acts.{Receipt, Tells, changed, made_by, index_where, record_of}
+use Rattle.lrs_machine.specs.Acts.{Receipt, TellsEntry, changed, made_by, index_where, record_of}
 use Rattle.lrs_machine.specs.Desk.{KeepsLine, Tide}
 use Rattle.lrs_machine.specs.Steps.{one_of}
 use Rattle.lrs_machine.proofs.Lines.{entries_append, entries_one, none_some, some_same}
@@ -25,13 +25,13 @@ use Rattle.lrs_replies.specs.Replies.{Says}
 use Rattle.lrs_turn.specs.Lists.{times}
 use Rattle.lrs_turn.proofs.Steps.{times_append}
 use Rattle.lrs_hall.specs.Acts.{ActsIn, ActsNext, Reach}
-use Rattle.lrs_hall.specs.Laws.{Alone, AreInOrder, EntriesOnce, IsAnsweredBefore, IsFrom, InOrder, IsKept, KeepsPromises, Makes, OwnEntries, entries_at, entries_in, is_at, least_of, promised}
+use Rattle.lrs_hall.specs.Laws.{Alone, AreInOrder, EntriesOnce, IsAnsweredBefore, IsFrom, InOrder, IsKept, KeepsPromises, Makes, OwnEntries, entries_at, entries_in, is_entry_at, least_of, promised}
 use Rattle.lrs_hall.proofs.Lines.{begins_take, count_next, get_last, get_past, get_some, get_take, last_of, length_take, one_has, one_length, take_next}
 use Rattle.lrs_hall.specs.Serving.{IsNotBelow}
 use Rattle.lrs_hall.proofs.Tides.{disk_left, is_left, not_acted, tide_later}
 use Rattle.lrs_hall.proofs.Talking.{Carries, all_seen, over_all}
 
--- ---- places in a line
+-- ---- indices in a line
 
 made_length : (made : Option Entry) (h : List Entry) → length (with_made made h) ≡ length (one_of made) + length h
 made_length None h = omega arith
@@ -86,7 +86,7 @@ none_is None is some = cc
 none_is (Some e) is some = none_some e (sym is)
 
 -- an act's own entry stands at its point, and is the answer's
-entry_is : (a : Answer) (point index : ℕ) (old new : Bool) (own : Option ℕ) (said : Result Answered Trouble) → Tells a point old new own said → own ≡ Some index → (index ≡ point) × IsSome a.entry
+entry_is : (a : Answer) (point index : ℕ) (old new : Bool) (own : Option ℕ) (said : Result Answered Trouble) → TellsEntry a point old new own said → own ≡ Some index → (index ≡ point) × IsSome a.entry
 entry_is a point index old new own (Ok said) tells is = by_entry a.entry (sym is ∙ tells.1)
   where
     by_entry : (e : Option Entry) → Some index ≡ index_where (is_some e) point → (index ≡ point) × IsSome e
@@ -228,10 +228,10 @@ module _ (limit : ℕ) (line : List Record) (caller : Caller) (command : Command
               ap (λ (b : Bool). if b then 1 else 0) (ne_eqb p index miss) ∙ sym other.1)
         ]) ∙ ap (λ (b : Bool). times k (own_step b on.at)) (sym s.0)
 
-    step_once : (if is_at receipt.entry index then 1 else 0) ≡ times k (own_step (changed receipt) on.at)
+    step_once : (if is_entry_at receipt.entry index then 1 else 0) ≡ times k (own_step (changed receipt) on.at)
     step_once = by_entry receipt.entry refl
       where
-        by_entry : (o : Option ℕ) → receipt.entry ≡ o → (if is_at o index then 1 else 0) ≡ times k (own_step (changed receipt) on.at)
+        by_entry : (o : Option ℕ) → receipt.entry ≡ o → (if is_entry_at o index then 1 else 0) ≡ times k (own_step (changed receipt) on.at)
         by_entry None none = step_none_made none
         by_entry (Some p) own = step_some_made p own
 
@@ -245,7 +245,7 @@ module _ (limit : ℕ) (line : List Record) (index k : ℕ) (makes : Makes line 
   once_in = record {
     none = λ x. omega arith;
     plain = λ status receipt receipts old new none more.
-        let nothing : ◌≡◌ {A = ℕ} (if is_at receipt.entry index then 1 else 0) 0 = ap (λ (r : Receipt). if is_at r.entry index then 1 else 0) none in
+        let nothing : ◌≡◌ {A = ℕ} (if is_entry_at receipt.entry index then 1 else 0) 0 = ap (λ (r : Receipt). if is_entry_at r.entry index then 1 else 0) none in
         omega (arith, nothing, more);
     act = λ caller command draw reply receipt receipts old mid new on more.
         let here = step_once limit line caller command draw reply receipt old mid on index k makes in
@@ -423,7 +423,7 @@ in_order limit line talks links old new over = over_all (ActsIn limit line) (Ord
 -- ---- what was acknowledged is kept
 
 -- without trouble nothing is in doubt
-calm : (a : Answer) (point : ℕ) (old new : Bool) (own : Option ℕ) (said : Result Answered Trouble) (reply : Reply) → Tells a point old new own said → Says said reply → reply.status ≢ 503 → new ≡ false
+calm : (a : Answer) (point : ℕ) (old new : Bool) (own : Option ℕ) (said : Result Answered Trouble) (reply : Reply) → TellsEntry a point old new own said → Says said reply → reply.status ≢ 503 → new ≡ false
 calm a point old new own (Ok said) reply tells says well = tells.2
 calm a point old new own (Err Memory) reply tells says well = tells.1
 calm a point old new own (Err Disk) reply tells says well = absurd (well says.0)

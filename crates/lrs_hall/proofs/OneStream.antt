@@ -14,7 +14,7 @@ use Rattle.lrs_replies.specs.declared.reply.Reply.{Reply}
 use Rattle.lrs_replies.specs.declared.reply.Trouble.{Trouble}
 use Rattle.lrs_replies.specs.declared.reply.Trouble.TheVariants.{Memory, Disk}
 use Rattle.lrs_machine.specs.Line.{BeginsWith, Record, entries, in_doubt}
-use Rattle.lrs_machine.specs.Acts.{Receipt, Tells, changed, line_behind, made_by, index_where, record_of}
+use Rattle.lrs_machine.specs.Acts.{Receipt, TellsEntry, changed, line_behind, made_by, index_where, record_of}
 use Rattle.lrs_machine.specs.LrsHistoryHistory.{Answer, answer, with_entry}
 use Rattle.lrs_replies.specs.Replies.{Says, body_bytes}
 use Rattle.lrs_names.specs.declared.draw.Draw.{Draw}
@@ -121,8 +121,8 @@ act_says limit line g caller command draw reply r old new next at calm =
     let here : entries (take act.at line) ≡ g = ap (λ (n : ℕ). entries (take n line)) next.next ∙ at in
     let at_point : take r.point (entries line) ≡ g = ap (λ (n : ℕ). take n (entries line)) act.acts.point ∙ sym (entries_take line act.at) ∙ here in
     let mine : Answer = answer limit (take r.point (entries line)) caller command r.clock draw in
-    let tells : Tells mine r.point (in_doubt (take act.at line)) (in_doubt (take new.records line)) r.entry (Ok ok.0) =
-    subst (λ (s : Result Answered Trouble). Tells mine r.point (in_doubt (take act.at line)) (in_doubt (take new.records line)) r.entry s) ok.1 act.acts.tells in
+    let tells : TellsEntry mine r.point (in_doubt (take act.at line)) (in_doubt (take new.records line)) r.entry (Ok ok.0) =
+    subst (λ (s : Result Answered Trouble). TellsEntry mine r.point (in_doubt (take act.at line)) (in_doubt (take new.records line)) r.entry s) ok.1 act.acts.tells in
     let behind : entries (take new.records line) ≡ with_entry g mine.entry =
     ap entries act.acts.line ∙ entries_behind (take act.at line) mine r r.point tells.1 ∙ ap (λ (h : List Entry). with_entry h mine.entry) here in
     subst (λ (h : List Entry). Said limit h caller command r.clock draw reply (entries (take new.records line))) at_point

@@ -3,7 +3,6 @@ use Rattle.std.proofs.Common.{◌≡◌, ◌⊎◌, ℕ, List, [], ◌∷◌, �
 use Rattle.lrs_disk.specs.Door.{Returned}
 use Rattle.lrs_http.specs.declared.request.Request.{Request}
 use Rattle.lrs_http.specs.declared.request.RequestRefused.{RequestRefused}
-use Rattle.lrs_http.specs.Stream.{most_requests}
 use Rattle.lrs_machine.specs.Acts.{Receipt, plain_receipt}
 use Rattle.lrs_replies.specs.declared.reply.Reply.{Reply}
 use Rattle.lrs_names.specs.declared.draw.Draw.{Draw}
@@ -18,6 +17,7 @@ use Rattle.lrs_hall.specs.Responses.{FixedResponse, IsFraming, framing_response,
 use Rattle.lrs_hall.specs.Serving.{AreOnLinks, all_receipts}
 use Rattle.lrs_hall.specs.Talks.{Talk}
 use Rattle.lrs_hall.proofs.Unread.{any_command}
+use Rattle.lrs_http.specs.declared.reading.TheConstants.{MOST_REQUESTS}
 
 -- ---- one response: an act, or none
 
@@ -80,7 +80,7 @@ module _ {X : Type 0} (acts : ActOn X) (P : List Receipt → X → X → Type 0)
   over_all [] (link ∷ links) old new is = absurd is
   over_all (talk ∷ talks) [] old new is = absurd is
   over_all (talk ∷ talks) (link ∷ links) old new is =
-      over_talk (going most_requests link.stream) talk.receipts (all_receipts talks) is.1.out talk.finish old is.0 new is.1.talks (over_all talks links is.0 new is.2)
+      over_talk (going MOST_REQUESTS link.stream) talk.receipts (all_receipts talks) is.1.out talk.finish old is.0 new is.1.talks (over_all talks links is.0 new is.2)
 
 -- ---- other acts
 
@@ -156,7 +156,7 @@ module _ {X Y : Type 0} (f : X → Y) (own : ActOn X) (acts : ActOn Y) (P Q : X 
   back_all [] (link ∷ links) old new is q = absurd is
   back_all (talk ∷ talks) [] old new is q = absurd is
   back_all (talk ∷ talks) (link ∷ links) old new is q =
-      back_talk (going most_requests link.stream) talk.receipts is.1.out talk.finish old is.0 is.1.talks (back_all talks links is.0 new is.2 q)
+      back_talk (going MOST_REQUESTS link.stream) talk.receipts is.1.out talk.finish old is.0 is.1.talks (back_all talks links is.0 new is.2 q)
 
   pub all_seen : (talks : List Talk) (links : List Returned) (old new : Worker X) → P old.reached → Q new.reached → AreOnLinks own talks links old new → AreOnLinks acts talks links (at old) (at new)
   all_seen [] [] old new p q is = ap at is
@@ -164,12 +164,12 @@ module _ {X Y : Type 0} (f : X → Y) (own : ActOn X) (acts : ActOn Y) (P Q : X 
   all_seen (talk ∷ talks) [] old new p q is = absurd is
   all_seen (talk ∷ talks) (link ∷ links) old new p q is =
       let mid = back_all talks links is.0 new is.2 q in
-      let on = forth_talk (going most_requests link.stream) talk.receipts is.1.out talk.finish old is.0 is.1.talks p in (
+      let on = forth_talk (going MOST_REQUESTS link.stream) talk.receipts is.1.out talk.finish old is.0 is.1.talks p in (
         at is.0,
         record {
           out = is.1.out;
           taken = is.1.taken;
-          talks = talk_seen (going most_requests link.stream) talk.receipts is.1.out talk.finish old is.0 p mid is.1.talks;
+          talks = talk_seen (going MOST_REQUESTS link.stream) talk.receipts is.1.out talk.finish old is.0 p mid is.1.talks;
           rose = is.1.rose;
         },
         all_seen talks links is.0 new on q is.2,

@@ -48,14 +48,14 @@ OwnEntries =
 
 -- ---- each entry once
 
-abbrev pub is_at : Option ℕ → ℕ → Bool
-is_at None index = false
-is_at (Some own) index = own == index
+abbrev pub is_entry_at : Option ℕ → ℕ → Bool
+is_entry_at None index = false
+is_entry_at (Some own) index = own == index
 
 -- how many receipts have their own entry at this index
 abbrev pub entries_at : ℕ → List Receipt → ℕ
 entries_at index [] = 0
-entries_at index (receipt ∷ receipts) = (if is_at receipt.entry index then 1 else 0) + entries_at index receipts
+entries_at index (receipt ∷ receipts) = (if is_entry_at receipt.entry index then 1 else 0) + entries_at index receipts
 
 -- The record of this number made the entry at this index.
 pub record Makes (line : List Record) (index k : ℕ) : Type 0 where

@@ -4,7 +4,6 @@ use Rattle.std.specs.Prelude.{None, IfSome, option_map, if◌then◌else◌}
 use Rattle.std.specs.List.{AllByRecursion}
 use Rattle.lrs_disk.specs.Door.{DoorState, Returned}
 use Rattle.lrs_disk.specs.Faults.{Rises}
-use Rattle.lrs_http.specs.Stream.{most_requests}
 use Rattle.lrs_machine.specs.Line.{BeginsWith, Record}
 use Rattle.lrs_machine.specs.Acts.{Receipt}
 pub use Rattle.lrs_machine.specs.Desk.{Tide, tide_at}
@@ -18,6 +17,7 @@ use Rattle.lrs_hall.specs.declared.talk.Finish.{Finish}
 use Rattle.lrs_hall.specs.declared.talk.Finish.TheVariants as finish
 use Rattle.lrs_hall.specs.declared.serving.ServeEnd.{ServeEnd}
 use Rattle.lrs_hall.specs.declared.serving.ServeEnd.TheVariants as serve
+use Rattle.lrs_http.specs.declared.reading.TheConstants.{MOST_REQUESTS}
 
 -- ---- one conversation
 
@@ -72,7 +72,7 @@ worker_of draws pass = worker_at draws (length pass.front) pass.own (tide_in pas
 -- a whole conversation over the stream of a link
 abbrev pub IsWholeTalk : {X : Type 0} → ActOn X → Option (List ℕ) → Talk → List ℕ → Worker X → Worker X → Type 0
 IsWholeTalk acts stream talk out old new =
-    Converses acts (going most_requests stream) talk.receipts out talk.finish old new
+    Converses acts (going MOST_REQUESTS stream) talk.receipts out talk.finish old new
 
 -- A talk of a worker: what went out, and its acts over what the worker's pass has seen in the end, which begins with
 -- what it had seen before.

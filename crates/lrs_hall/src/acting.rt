@@ -10,7 +10,7 @@ ghost use Rattle.lrs_hall.specs.Serving.{KeepsPass};
 ghost use Rattle.lrs_hall.specs.Steps.{IsSaid, IsInTurn, Looks, pass_behind, seen_with, worker};
 
 use crate::Draws;
-use lrs_command::Command;
+use lrs_command::{BAD_REQUEST, Command};
 use lrs_disk::{Disk, Door};
 use lrs_machine::{Desk, Receipt, Record, Spent, Submission};
 use lrs_names::Draw;
@@ -125,7 +125,7 @@ pub(crate) fn look<R: Wait, D: Disk, O: Door>(
     let draw = draws.next();
     let command = Submission::unjudged(Command::Refused {
         area: routed.area,
-        status: 400,
+        status: BAD_REQUEST,
         rule: Rule::B(1),
     });
     let (reply, receipt, spent) = act_and_give(

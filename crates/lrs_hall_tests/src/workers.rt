@@ -264,15 +264,15 @@ fn second_behind_first(alloc: Global) -> Result<(Gate, Gate), Fail> {
     Ok((Gate::open(one), Gate::input(other, 0, answered)))
 }
 
-// The first link gives nothing from this place on until the second was answered, which gives nothing until the first
+// The first link gives nothing from this offset on until the second was answered, which gives nothing until the first
 // waits.
-fn first_held_in_reading(alloc: Global, place: usize) -> Result<(Gate, Gate), Fail> {
+fn first_held_in_reading(alloc: Global, offset: usize) -> Result<(Gate, Gate), Fail> {
     let one = Sign::new(alloc)?;
     let other = Sign::new(alloc)?;
     let waits = Until::Waits(one.again()?);
     let answered = Until::Answered(other.again()?);
     Ok((
-        Gate::input(one, place, answered),
+        Gate::input(one, offset, answered),
         Gate::input(other, 0, waits),
     ))
 }
@@ -360,13 +360,13 @@ fn a_statement_that_comes_twice_at_once_is_kept_once(rt: HostRuntime) -> Result<
     Ok(())
 }
 
-// Counts for each place how many of these receipts tell it as their entry's.
-fn count_entries(places: &mut [u64], receipts: &[Receipt]) {
+// Counts for each index how many of these receipts tell it as their entry's.
+fn count_entries(counts: &mut [u64], receipts: &[Receipt]) {
     for receipt in receipts {
         if let Some(entry) = receipt.entry() {
-            let place = entry as usize;
-            if place < places.len() {
-                places[place] = places[place].saturating_add(1);
+            let index = entry as usize;
+            if index < counts.len() {
+                counts[index] = counts[index].saturating_add(1);
             }
         }
     }
@@ -374,11 +374,11 @@ fn count_entries(places: &mut [u64], receipts: &[Receipt]) {
 
 // Whether each of a hundred entries behind the founding one is that of one receipt, and there are no more.
 fn are_hundred_told_once(served: &Served) -> bool {
-    let mut places = [0; 101];
-    count_entries(&mut places, receipts(served.talks.as_slice(), 0));
-    count_entries(&mut places, receipts(served.talks.as_slice(), 1));
-    let once = places[1..].iter().all(|count| *count == 1);
-    once && places[0] == 0 && served.records == 101 && served.entries == 101
+    let mut counts = [0; 101];
+    count_entries(&mut counts, receipts(served.talks.as_slice(), 0));
+    count_entries(&mut counts, receipts(served.talks.as_slice(), 1));
+    let once = counts[1..].iter().all(|count| *count == 1);
+    once && counts[0] == 0 && served.records == 101 && served.entries == 101
 }
 
 // Two links put fifty statements each.
@@ -430,8 +430,8 @@ fn goes_with(tally: &mut Tally, receipt: &Receipt, is_first: bool) -> bool {
 }
 
 fn all_go_with(tally: &mut Tally, receipts: &[Receipt]) -> bool {
-    for (place, receipt) in receipts.iter().enumerate() {
-        if !goes_with(tally, receipt, place % 2 == 0) {
+    for (index, receipt) in receipts.iter().enumerate() {
+        if !goes_with(tally, receipt, index % 2 == 0) {
             return false;
         }
     }
@@ -440,11 +440,11 @@ fn all_go_with(tally: &mut Tally, receipts: &[Receipt]) -> bool {
 
 // Whether each of the six entries is told once, and the file has them all.
 fn are_six_kept(served: &Served) -> bool {
-    let mut places = [0; 7];
-    count_entries(&mut places, receipts(served.talks.as_slice(), 0));
-    count_entries(&mut places, receipts(served.talks.as_slice(), 1));
-    let once = places[1..].iter().all(|count| *count == 1);
-    once && places[0] == 0 && served.entries == 7
+    let mut counts = [0; 7];
+    count_entries(&mut counts, receipts(served.talks.as_slice(), 0));
+    count_entries(&mut counts, receipts(served.talks.as_slice(), 1));
+    let once = counts[1..].iter().all(|count| *count == 1);
+    once && counts[0] == 0 && served.entries == 7
 }
 
 // What became of three statements of each of two workers, each put twice, if it goes together: whether there was a

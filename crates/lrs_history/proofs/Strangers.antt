@@ -8,7 +8,7 @@ use Rattle.lrs_history.specs.Answers.{read_said, write_said}
 use Rattle.lrs_history.specs.Effects.{effect}
 use Rattle.lrs_history.specs.Occasions.{occasion}
 use Rattle.lrs_history.specs.History.{answer, answer_of, end_offset, next_entry, only, outcome_by, refused, refused_or, state, Said}
-use Rattle.lrs_history.specs.Refusals.{bad_form, bad_role, barred, conflict, missing, refused_inside, refused_with, unmergeable}
+use Rattle.lrs_history.specs.Refusals.{bad_form, barred_document, barred, conflict, missing, refused_inside, refused_with, unmergeable}
 use Rattle.lrs_command.specs.Areas.{command_area}
 use Rattle.lrs_history.specs.Whose.{who_is}
 use Rattle.lrs_ids.specs.Choices.{first_some, when}
@@ -24,7 +24,7 @@ told_barred limit h caller (command.Write write) clock draw r is =
     let st = state h in
     let e = next_entry st caller write clock draw in
     ap (λ (o : Option Refusal). answer_of limit (end_offset limit h) (outcome_by
-    (option_or (option_map refused (first_some (o ∷ bad_form write ∷ bad_role st (occasion st e).by write ∷ missing st write ∷ unmergeable st write ∷ conflict st (occasion st e) write ∷ []))) (when (changes_nothing (effect st e)) (write_said (effect st e))))
+    (option_or (option_map refused (first_some (o ∷ bad_form write ∷ barred_document st (occasion st e).by write ∷ missing st write ∷ unmergeable st write ∷ conflict st (occasion st e) write ∷ []))) (when (changes_nothing (effect st e)) (write_said (effect st e))))
     e (write_said (effect st e)))) is
 told_barred limit h caller (command.Read read) clock draw r is =
     let st = state h in

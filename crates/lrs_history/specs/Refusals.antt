@@ -31,6 +31,7 @@ use Rattle.lrs_rules.specs.declared.rule.Rule.{Rule}
 use Rattle.lrs_rules.specs.declared.rule.Rule.TheVariants as rule
 use Rattle.lrs_command.specs.declared.who.Who.{Who}
 use Rattle.lrs_command.specs.declared.who.Who.TheVariants as who
+use Rattle.lrs_command.specs.declared.command.TheConstants.{CONTENT_TOO_LARGE, NOT_FOUND}
 use Rattle.lrs_history.specs.Effects.{new_by, with_ids_in}
 use Rattle.lrs_history.specs.Occasions.{Occasion, occasion}
 use Rattle.lrs_history.specs.Launches.{target}
@@ -86,7 +87,8 @@ barred Desk (who.Session k) = Some (Forbidden (rule.A 2))
 
 -- what a form that was refused is told by its status
 abbrev pub refused_with : ℕ → Rule → Refusal
-refused_with status rule = if status == 404 then NotFound else (if status == 413 then TooLong else Broken rule)
+refused_with status rule =
+    if status == NOT_FOUND then NotFound else (if status == CONTENT_TOO_LARGE then TooLong else Broken rule)
 
 -- a provider's name is out of form: B2
 abbrev pub refused_name : List ℕ → Option Refusal
@@ -162,12 +164,12 @@ bad_form (Sweep idle) = refused_idle idle
 -- ---- what a session may do with documents
 
 -- why a caller doesn't do that to documents: A3 to A5
-abbrev pub bad_role : State → Who → Write → Option Refusal
-bad_role st by (write.State h key media bytes) =
+abbrev pub barred_document : State → Who → Write → Option Refusal
+barred_document st by (write.State h key media bytes) =
     overstepped (launch_of st by) key.agent key.registration (Some key.state)
-bad_role st by (Drop activity agent registration state) =
+barred_document st by (Drop activity agent registration state) =
     overstepped (launch_of st by) agent registration state
-bad_role st by other = None
+barred_document st by other = None
 
 -- ---- what isn't there
 
@@ -263,7 +265,7 @@ abbrev pub refusal_at : State → Occasion → Write → Option Refusal
 refusal_at st at write = first_some (
     barred (write_area write) at.by
     ∷ bad_form write
-    ∷ bad_role st at.by write
+    ∷ barred_document st at.by write
     ∷ missing st write
     ∷ unmergeable st write
     ∷ conflict st at write
@@ -283,13 +285,13 @@ abbrev pub outside_of : Option Launch → WantedDocuments → Option Refusal
 outside_of by (One key) = outside by key.agent key.registration
 outside_of by (Ids activity agent registration since) = outside by agent registration
 
-abbrev pub read_bad_role : State → Who → Read → Option Refusal
-read_bad_role st by (Documents wanted) = outside_of (launch_of st by) wanted
-read_bad_role st by other = None
+abbrev pub barred_question : State → Who → Read → Option Refusal
+barred_question st by (Documents wanted) = outside_of (launch_of st by) wanted
+barred_question st by other = None
 
 -- why a caller who is let in isn't told
 abbrev pub refused_inside : State → Who → Read → Option Refusal
-refused_inside st by read = first_some (too_late st read ∷ read_bad_role st by read ∷ [])
+refused_inside st by read = first_some (too_late st read ∷ barred_question st by read ∷ [])
 
 abbrev pub read_refusal : State → Who → Read → Option Refusal
 read_refusal st by read = option_or (barred (read_area read) by) (refused_inside st by read)

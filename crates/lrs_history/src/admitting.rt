@@ -8,7 +8,7 @@ ghost use Rattle.lrs_history.specs.Sessions.{is_its_own, outside, over_state, ov
 use cmi5_course::Launch;
 use cmi5_verdict::cmi5_launch::names::LAUNCH_DATA;
 use lrs_agents::{Agent, Ifi};
-use lrs_command::{Area, Who};
+use lrs_command::{Area, CONTENT_TOO_LARGE, NOT_FOUND, Who};
 use lrs_json::Text;
 use lrs_names::Id;
 use lrs_replies::Refusal;
@@ -46,9 +46,9 @@ pub fn barred(area: Area, who: Who) -> Option<Refusal>
 pub fn refused_with(status: u16, rule: Rule) -> Refusal
     ensures { result ≡ refused_with status rule }
 {
-    if status == 404 {
+    if status == NOT_FOUND {
         Refusal::NotFound
-    } else if status == 413 {
+    } else if status == CONTENT_TOO_LARGE {
         Refusal::TooLong
     } else {
         Refusal::Broken(rule)

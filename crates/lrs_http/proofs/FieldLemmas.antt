@@ -1,28 +1,27 @@
 -- What fields say, one after the other.
-use Rattle.std.proofs.Common.{◌≡◌, ℕ, ◌+◌, ◌<◌, ◌≤◌, Bool, true, false, cond, List, [], ◌∷◌, length, take, drop, get_or, Some, None, Result, Err, refl, sym, ap, ◌∙◌, arith, rules, inl, inr, ⊎_elim, add-one, drop-cons}
+use Rattle.std.proofs.Common.{◌≡◌, ℕ, ◌+◌, ◌<◌, ◌≤◌, Bool, true, false, cond, List, [], ◌∷◌, length, take, drop, get_or, Some, None, Result, Err, refl, sym, ap, ◌∙◌, arith, inl, inr, ⊎_elim, add-one, drop-cons}
 use Rattle.std.specs.Prelude.{IsTrue, ◌↔◌, map, nat_lt, ◌&&◌, ◌||◌, IsUtf8}
 use Rattle.std.specs.List.{list_all, list_any, slice_split, position_or_len}
 use Rattle.std.proofs.lemmas.List.Splits.{slice_split_first}
-use Rattle.std.specs.Str.{str_eq_ignore_ascii_case, bytes_eq, is_utf8}
+use Rattle.std.specs.Str.{str_eq_ignore_ascii_case, is_utf8}
 use Rattle.std.specs.Char.{to_ascii_lowercase, is_ascii_digit, digit_value}
 use Rattle.std.specs.Str.Parse.{AllDigits}
-use Rattle.std.proofs.lemmas.Slice.Eq.{bytes_eq-Decides}
 use Rattle.std.proofs.lemmas.Str.{IsUtf8-from_is_utf8}
 use Rattle.std.proofs.lemmas.Bool.{cases_Bool, cases_lt, and_parts}
 use Rattle.std.proofs.lemmas.Bool.Decides.{nat_tests}
 use Rattle.httparse.specs.declared.spans.HeaderSpan.{HeaderSpan}
 use Rattle.httparse.specs.Spans.{header_bytes}
-use Rattle.httparse.specs.Grammar.{skip_ows, is_ows}
 use Rattle.lrs_http.specs.declared.fields.TheConstants.{MOST_LENGTH_DIGITS}
 use Rattle.lrs_http.specs.declared.request.RequestRefused.{RequestRefused}
 use Rattle.lrs_http.specs.declared.request.RequestRefused.TheVariants as refused
 use Rattle.lrs_http.specs.Fields.{NameAndValue, is_named, first_value, count_named, is_length, is_close, is_comma, asks_to_close}
-use Rattle.lrs_http.specs.Head.{HeadParts, most_fields, announced, has_texts, body_length, method_of}
+use Rattle.lrs_http.specs.Head.{HeadParts, announced, has_texts, body_length, method_of}
 use Rattle.lrs_http.specs.Reading.{IsNoText}
 use Rattle.lrs_media.proofs.Trimming.{named_is}
-use Rattle.std.specs.Prelude.{nat_le, ◌⊎◌, min}
+use Rattle.std.specs.Prelude.{nat_le, ◌⊎◌}
 use Rattle.std.specs.List.{fold}
 use Rattle.std.proofs.lemmas.List.{length-map, length-take, take_all}
+use Rattle.lrs_http.specs.declared.heads.TheConstants.{MOST_FIELDS}
 
 pub first_here : (name : List ℕ) (field : NameAndValue) (fields : List NameAndValue) → is_named name field ≡ true → first_value name (field ∷ fields) ≡ Some field.1
 unfolding first_value
@@ -54,11 +53,11 @@ pub count_none : (name : List ℕ) → count_named name [] ≡ 0
 unfolding count_named
 count_none name = refl
 
--- the span of a place past the end
+-- the span of an index past the end
 abbrev pub blank_span : HeaderSpan
 blank_span = record { name = record { start = 0; end = 0 }; value = record { start = 0; end = 0 } }
 
--- the fields from a place on
+-- the fields from an index on
 pub fields_from : (bytes : List ℕ) (fields : List HeaderSpan) (i : ℕ) (d : HeaderSpan) → i < length fields
     → map (header_bytes bytes) (drop i fields) ≡ header_bytes bytes (get_or fields i d) ∷ map (header_bytes bytes) (drop (i + 1) fields)
 fields_from bytes fields i d lt =
@@ -91,18 +90,18 @@ length_parts value is =
 
 -- ---- what a head announces
 
-pub announced_in_order : (parts : HeadParts) → length parts.fields ≤ most_fields → has_texts parts.fields ≡ true → announced parts ≡ body_length (method_of parts.method) parts.fields
+pub announced_in_order : (parts : HeadParts) → length parts.fields ≤ MOST_FIELDS → has_texts parts.fields ≡ true → announced parts ≡ body_length (method_of parts.method) parts.fields
 unfolding announced
-announced_in_order parts few texts = let test : nat_lt most_fields (length parts.fields) ≡ false = grind (arith, nat_tests, few) in rw (test, texts) refl
+announced_in_order parts few texts = let test : nat_lt MOST_FIELDS (length parts.fields) ≡ false = grind (arith, nat_tests, few) in rw (test, texts) refl
 
-pub announced_no_text : (parts : HeadParts) → length parts.fields ≤ most_fields → has_texts parts.fields ≡ false → announced parts ≡ Err (refused.Malformed 1)
+pub announced_no_text : (parts : HeadParts) → length parts.fields ≤ MOST_FIELDS → has_texts parts.fields ≡ false → announced parts ≡ Err (refused.Malformed 1)
 unfolding announced
-announced_no_text parts few texts = let test : nat_lt most_fields (length parts.fields) ≡ false = grind (arith, nat_tests, few) in rw (test, texts) refl
+announced_no_text parts few texts = let test : nat_lt MOST_FIELDS (length parts.fields) ≡ false = grind (arith, nat_tests, few) in rw (test, texts) refl
 
-pub refused_text : (parts : HeadParts) (e : RequestRefused) → length parts.fields ≤ most_fields → IsNoText (has_texts parts.fields) e → (e ≡ refused.Memory) ⊎ (announced parts ≡ Err e)
+pub refused_text : (parts : HeadParts) (e : RequestRefused) → length parts.fields ≤ MOST_FIELDS → IsNoText (has_texts parts.fields) e → (e ≡ refused.Memory) ⊎ (announced parts ≡ Err e)
 refused_text parts e few why = ⊎_elim (λ is. inl is) (λ is. inr (announced_no_text parts few is.1 ∙ ap (λ (r : RequestRefused). let o : Result ℕ RequestRefused = Err r in o) (sym is.0))) why
 
-pub few_taken : (bytes : List ℕ) (fields : List HeaderSpan) (n : ℕ) → n ≤ most_fields → length (map (header_bytes bytes) (take n fields)) ≤ most_fields
+pub few_taken : (bytes : List ℕ) (fields : List HeaderSpan) (n : ℕ) → n ≤ MOST_FIELDS → length (map (header_bytes bytes) (take n fields)) ≤ MOST_FIELDS
 few_taken bytes fields n few =
     let one = length-map (take n fields) (header_bytes bytes) in
     let two = length-take n fields in

@@ -1,10 +1,10 @@
 -- From a look at the bytes that have come to what stands at the front of a whole stream.
-use Rattle.std.proofs.Common.{◌≡◌, ℕ, ◌+◌, ◌-◌, ◌<◌, ◌≤◌, Bool, true, false, List, [], ◌++◌, length, take, drop, refl, sym, ap, ◌∙◌, subst, arith, append_assoc, append-nil, ⊎_elim, length-append, Err, min}
+use Rattle.std.proofs.Common.{◌≡◌, ℕ, ◌+◌, ◌-◌, ◌<◌, ◌≤◌, Bool, true, false, List, [], ◌++◌, length, take, drop, refl, sym, ap, ◌∙◌, subst, arith, append_assoc, append-nil, ⊎_elim, length-append, Err}
 use Rattle.std.specs.Prelude.{nat_lt, MatchBool, map}
 use Rattle.std.specs.List.{list_all}
 use Rattle.std.proofs.lemmas.Bool.{cases_lt, false≢true, and_parts}
 use Rattle.std.proofs.lemmas.Bool.Decides.{nat_tests}
-use Rattle.std.proofs.lemmas.List.{take_all, drop_all, take-append-le, take-append-drop, drop_at, length-take, length-map}
+use Rattle.std.proofs.lemmas.List.{take_all, take-append-le, take-append-drop, drop_at, length-take, length-map}
 use Rattle.std.proofs.lemmas.List.Folds.{list_all-append}
 use Rattle.std.proofs.Math.Seq.{take-append-add}
 use Rattle.httparse.specs.declared.spans.HeaderSpan.{HeaderSpan}
@@ -13,10 +13,11 @@ use Rattle.httparse.specs.Grammar.{RequestHead, print_request, ReadsRequest, Has
 use Rattle.httparse.specs.Spans.{IsRequestWithin, IsRequestAt, name_and_value, header_bytes}
 use Rattle.httparse.proofs.GrammarLemmas.{ReadsRequest-append}
 use Rattle.lrs_http.specs.declared.request.RequestRefused.TheVariants as refused
-use Rattle.lrs_http.specs.Head.{parts_of, announced, most_fields}
-use Rattle.lrs_http.specs.Stream.{stands, blank, wrong, long, short, IsFront, IsItem, window, longest_head, is_line_end, with_body}
+use Rattle.lrs_http.specs.Head.{parts_of, announced}
+use Rattle.lrs_http.specs.Stream.{stands, blank, wrong, long, short, IsFront, IsItem, window, is_line_end, with_body}
 use Rattle.lrs_http.specs.Prospect.{IsProspect, IsHeadAt, IsJudged, parts_at, refusal_for}
 use Rattle.lrs_http.specs.declared.heads.Prospect.{Prospect}
+use Rattle.lrs_http.specs.declared.heads.TheConstants.{LONGEST_HEAD, MOST_FIELDS}
 
 -- the front of a text is the front of its front, and something of what follows
 front_more : {A : Type 0} (n : ℕ) (xs ys : List A) → (k : ℕ) × (take n (xs ++ ys) ≡ take n xs ++ take k ys)
@@ -32,16 +33,16 @@ front_more {A} n xs ys = ⊎_elim
 pub head_front : (bytes more : List ℕ) (head : RequestHead) (len : ℕ) → ReadsRequest (window bytes) head (drop len (window bytes))
     → len ≡ length (print_request head) → IsFront (bytes ++ more) (stands head (drop len (bytes ++ more)))
 head_front bytes more head len reads is =
-    let behind = drop len (window bytes) ++ (drop longest_head bytes ++ more) in
-    let all : window bytes ++ (drop longest_head bytes ++ more) ≡ bytes ++ more =
-    sym (append_assoc (window bytes) (drop longest_head bytes) more) ∙ ap (λ l. l ++ more) (take-append-drop longest_head bytes) in
-    let whole : ReadsRequest (bytes ++ more) head behind = (reads.0, sym all ∙ (ReadsRequest-append (window bytes) head (drop len (window bytes)) (drop longest_head bytes ++ more) reads).1) in
+    let behind = drop len (window bytes) ++ (drop LONGEST_HEAD bytes ++ more) in
+    let all : window bytes ++ (drop LONGEST_HEAD bytes ++ more) ≡ bytes ++ more =
+    sym (append_assoc (window bytes) (drop LONGEST_HEAD bytes) more) ∙ ap (λ l. l ++ more) (take-append-drop LONGEST_HEAD bytes) in
+    let whole : ReadsRequest (bytes ++ more) head behind = (reads.0, sym all ∙ (ReadsRequest-append (window bytes) head (drop len (window bytes)) (drop LONGEST_HEAD bytes ++ more) reads).1) in
     let rest : drop len (bytes ++ more) ≡ behind = ap (drop len) whole.1 ∙ drop_at (print_request head) behind len (sym is) in
-    let short = length-take longest_head bytes in
+    let short = length-take LONGEST_HEAD bytes in
     let sum : length (window bytes) ≡ length (print_request head) + length (drop len (window bytes)) = ap (λ (l : List ℕ). length l) reads.1 ∙ length-append (print_request head) (drop len (window bytes)) in
     ((reads.0, whole.1 ∙ ap (λ l. print_request head ++ l) (sym rest)), omega arith)
 
-pub head_at : (bytes : List ℕ) (fields : List HeaderSpan) (spans : RequestSpans) (head : RequestHead) → length fields ≤ most_fields
+pub head_at : (bytes : List ℕ) (fields : List HeaderSpan) (spans : RequestSpans) (head : RequestHead) → length fields ≤ MOST_FIELDS
     → IsRequestWithin (window bytes) fields spans → IsRequestAt (window bytes) fields spans head → IsHeadAt bytes fields spans
 unfolding parts_at parts_of
 head_at bytes fields spans head room within at = record {
@@ -55,23 +56,23 @@ head_at bytes fields spans head room within at = record {
     covered : length (map (header_bytes (window bytes)) (take spans.headers fields)) ≡ length (map name_and_value head.fields)
     covered = ap (λ (l : List (List ℕ × List ℕ)). length l) at.fields
 
-    few : length head.fields ≤ most_fields
+    few : length head.fields ≤ MOST_FIELDS
     few =
         let one = length-map (take spans.headers fields) (header_bytes (window bytes)) in
         let two = length-map head.fields name_and_value in
         let three = length-take spans.headers fields in
         omega (arith, covered, one, two, three)
 
-crowded_announced : (head : RequestHead) → most_fields < length head.fields → announced (parts_of head) ≡ Err refused.HeadTooLong
+crowded_announced : (head : RequestHead) → MOST_FIELDS < length head.fields → announced (parts_of head) ≡ Err refused.HeadTooLong
 unfolding announced parts_of
 crowded_announced head many =
     let same = length-map head.fields name_and_value in
-    let count : most_fields < length (map name_and_value head.fields) = omega (arith, same, many) in
-    let test : nat_lt most_fields (length (map name_and_value head.fields)) ≡ true = grind (arith, nat_tests, count) in
+    let count : MOST_FIELDS < length (map name_and_value head.fields) = omega (arith, same, many) in
+    let test : nat_lt MOST_FIELDS (length (map name_and_value head.fields)) ≡ true = grind (arith, nat_tests, count) in
     rw test refl
 
 -- a head of too many fields is refused, whatever follows
-pub crowded : (bytes more : List ℕ) (head : RequestHead) (rest : List ℕ) → ReadsRequest (window bytes) head rest → most_fields < length head.fields
+pub crowded : (bytes more : List ℕ) (head : RequestHead) (rest : List ℕ) → ReadsRequest (window bytes) head rest → MOST_FIELDS < length head.fields
     → IsItem (bytes ++ more) (Err refused.HeadTooLong)
 crowded bytes more head rest reads many =
     let size = length (print_request head) in
@@ -83,7 +84,7 @@ crowded bytes more head rest reads many =
 pub hopeless : (bytes more : List ℕ) → ((more : List ℕ) → HasNoRequest (window bytes ++ more) × ¬ (MayBecomeRequest (window bytes ++ more)))
     → list_all is_line_end bytes ≡ false → IsItem (bytes ++ more) (Err (refused.Malformed 1))
 hopeless bytes more never filled =
-    let longer = front_more longest_head bytes more in
+    let longer = front_more LONGEST_HEAD bytes more in
     let known = never (take longer.0 more) in
     let none : HasNoRequest (window (bytes ++ more)) = subst HasNoRequest (sym longer.1) known.0 in
     let unmade : ¬ (MayBecomeRequest (window (bytes ++ more))) = λ may. known.1 (subst MayBecomeRequest longer.1 may) in
@@ -92,20 +93,20 @@ hopeless bytes more never filled =
 -- ---- the last look
 
 -- for a stream that goes on after a full window
-item_long : (bytes more : List ℕ) (may : Bool) → longest_head ≤ length bytes → HasNoRequest (window bytes)
+item_long : (bytes more : List ℕ) (may : Bool) → LONGEST_HEAD ≤ length bytes → HasNoRequest (window bytes)
     → MatchBool may (MayBecomeRequest (window bytes)) (¬ (MayBecomeRequest (window bytes)))
     → IsItem (bytes ++ more) (Err (refusal_for false (list_all is_line_end bytes) may))
 item_long bytes more true full none may =
-    let same : window (bytes ++ more) ≡ window bytes = take-append-le longest_head bytes more full in
+    let same : window (bytes ++ more) ≡ window bytes = take-append-le LONGEST_HEAD bytes more full in
     let longer = length-append bytes more in
     (long, (subst HasNoRequest (sym same) none, (omega arith, subst MayBecomeRequest (sym same) may)), refl)
 item_long bytes more false full none not =
-    let same : window (bytes ++ more) ≡ window bytes = take-append-le longest_head bytes more full in
+    let same : window (bytes ++ more) ≡ window bytes = take-append-le LONGEST_HEAD bytes more full in
     let longer = length-append bytes more in
     (wrong, (subst HasNoRequest (sym same) none, (λ is. absurd (omega (arith, is.0, longer, full)), λ m. not (subst MayBecomeRequest same m))), refl)
 
 -- for a stream that ends with the bytes
-item_short : (bytes : List ℕ) (all may : Bool) → length bytes < longest_head → list_all is_line_end bytes ≡ all → HasNoRequest (window bytes)
+item_short : (bytes : List ℕ) (all may : Bool) → length bytes < LONGEST_HEAD → list_all is_line_end bytes ≡ all → HasNoRequest (window bytes)
     → MatchBool may (MayBecomeRequest (window bytes)) (¬ (MayBecomeRequest (window bytes)))
     → IsItem bytes (Err (refusal_for true all may))
 item_short bytes true may small is none m = (blank, (none, (small, is)), refl)
@@ -113,19 +114,19 @@ item_short bytes false true small is none m = (short, (none, (small, is, m)), re
 item_short bytes false false small is none m = (wrong, (none, (λ b. false≢true (sym is ∙ b.1), m)), refl)
 
 answer : (bytes : List ℕ) (may : Bool) → HasNoRequest (window bytes) → MatchBool may (MayBecomeRequest (window bytes)) (¬ (MayBecomeRequest (window bytes)))
-    → (more : List ℕ) → (length bytes < longest_head → more ≡ []) → IsItem (bytes ++ more) (Err (refusal_for (nat_lt (length bytes) longest_head) (list_all is_line_end bytes) may))
+    → (more : List ℕ) → (length bytes < LONGEST_HEAD → more ≡ []) → IsItem (bytes ++ more) (Err (refusal_for (nat_lt (length bytes) LONGEST_HEAD) (list_all is_line_end bytes) may))
 answer bytes may none m more ends = ⊎_elim
     (λ small.
-    let test : nat_lt (length bytes) longest_head ≡ true = grind (arith, nat_tests, small) in
+    let test : nat_lt (length bytes) LONGEST_HEAD ≡ true = grind (arith, nat_tests, small) in
     let nothing : bytes ++ more ≡ bytes = ap (λ l. bytes ++ l) (ends small) ∙ append-nil bytes in
     subst (λ t. IsItem (bytes ++ more) (Err (refusal_for t (list_all is_line_end bytes) may))) (sym test)
     (subst (λ s. IsItem s (Err (refusal_for true (list_all is_line_end bytes) may))) (sym nothing) (item_short bytes (list_all is_line_end bytes) may small refl none m)))
     (λ full.
-    let test : nat_lt (length bytes) longest_head ≡ false = grind (arith, nat_tests, full) in
+    let test : nat_lt (length bytes) LONGEST_HEAD ≡ false = grind (arith, nat_tests, full) in
     subst (λ t. IsItem (bytes ++ more) (Err (refusal_for t (list_all is_line_end bytes) may))) (sym test) (item_long bytes more may full none m))
-    (cases_lt (length bytes) longest_head)
+    (cases_lt (length bytes) LONGEST_HEAD)
 
-judged_by : (bytes : List ℕ) (s a may : Bool) → ((more : List ℕ) → (length bytes < longest_head → more ≡ []) → IsItem (bytes ++ more) (Err (refusal_for s a may)))
+judged_by : (bytes : List ℕ) (s a may : Bool) → ((more : List ℕ) → (length bytes < LONGEST_HEAD → more ≡ []) → IsItem (bytes ++ more) (Err (refusal_for s a may)))
     → IsJudged bytes (refusal_for s a may)
 judged_by bytes true true may f = f
 judged_by bytes true false true f = f
@@ -135,8 +136,8 @@ judged_by bytes false a false f = f
 
 -- the last look refuses as the whole stream asks
 pub judged : (bytes : List ℕ) (may : Bool) → HasNoRequest (window bytes) → MatchBool may (MayBecomeRequest (window bytes)) (¬ (MayBecomeRequest (window bytes)))
-    → IsJudged bytes (refusal_for (nat_lt (length bytes) longest_head) (list_all is_line_end bytes) may)
-judged bytes may none m = judged_by bytes (nat_lt (length bytes) longest_head) (list_all is_line_end bytes) may (answer bytes may none m)
+    → IsJudged bytes (refusal_for (nat_lt (length bytes) LONGEST_HEAD) (list_all is_line_end bytes) may)
+judged bytes may none m = judged_by bytes (nat_lt (length bytes) LONGEST_HEAD) (list_all is_line_end bytes) may (answer bytes may none m)
 
 -- ---- what a look says of the window
 

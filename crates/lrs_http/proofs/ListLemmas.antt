@@ -7,19 +7,20 @@ use Rattle.httparse.specs.Grammar.{RequestHead, print_request, HasNoRequest}
 use Rattle.httparse.proofs.GrammarLemmas.{request_unique}
 use Rattle.lrs_http.specs.declared.request.Request.{Request}
 use Rattle.lrs_http.specs.declared.request.RequestRefused.{RequestRefused}
-use Rattle.lrs_http.specs.Stream.{Front, stands, blank, wrong, long, short, IsFront, IsNoHead, Item, IsItem, item_of, SpellsRequests, window, longest_head}
+use Rattle.lrs_http.specs.Stream.{StreamFront, stands, blank, wrong, long, short, IsFront, IsNoHead, Item, IsItem, item_of, SpellsRequests, window}
 use Rattle.lrs_http.specs.OneList.{OneItem, OneList}
+use Rattle.lrs_http.specs.declared.heads.TheConstants.{LONGEST_HEAD}
 
 -- a head that stands at the front stands in the window
 no_head : (stream : List ℕ) (head : RequestHead) (behind : List ℕ) → IsFront stream (stands head behind) → HasNoRequest (window stream) → ⊥
 no_head stream head behind front none =
     let size = length (print_request head) in
-    let split : longest_head ≡ size + (longest_head - size) = omega (arith, front.1) in
-    let here : window stream ≡ print_request head ++ take (longest_head - size) behind =
-    ap (take longest_head) front.0.1 ∙ ap (λ n. take n (print_request head ++ behind)) split ∙ take-append-add (print_request head) behind (longest_head - size) in
-    none head (take (longest_head - size) behind) (front.0.0, here)
+    let split : LONGEST_HEAD ≡ size + (LONGEST_HEAD - size) = omega (arith, front.1) in
+    let here : window stream ≡ print_request head ++ take (LONGEST_HEAD - size) behind =
+    ap (take LONGEST_HEAD) front.0.1 ∙ ap (λ n. take n (print_request head ++ behind)) split ∙ take-append-add (print_request head) behind (LONGEST_HEAD - size) in
+    none head (take (LONGEST_HEAD - size) behind) (front.0.0, here)
 
-others : (stream : List ℕ) (a b : Front) → IsNoHead stream a → IsNoHead stream b → a ≡ b
+others : (stream : List ℕ) (a b : StreamFront) → IsNoHead stream a → IsNoHead stream b → a ≡ b
 others stream (stands head behind) b x y = absurd x
 others stream blank (stands head behind) x y = absurd y
 others stream blank blank x y = refl
@@ -42,14 +43,14 @@ others stream short wrong x y = absurd (y.1 x.2)
 others stream short long x y = absurd (omega (arith, x.0, y.0))
 others stream short short x y = refl
 
-headless : (stream : List ℕ) (a : Front) → IsFront stream a → ((head : RequestHead) × (behind : List ℕ) × (a ≡ stands head behind) × IsFront stream (stands head behind)) ⊎ (HasNoRequest (window stream) × IsNoHead stream a)
+headless : (stream : List ℕ) (a : StreamFront) → IsFront stream a → ((head : RequestHead) × (behind : List ℕ) × (a ≡ stands head behind) × IsFront stream (stands head behind)) ⊎ (HasNoRequest (window stream) × IsNoHead stream a)
 headless stream (stands head behind) x = inl (head, behind, refl, x)
 headless stream blank x = inr x
 headless stream wrong x = inr x
 headless stream long x = inr x
 headless stream short x = inr x
 
-one_front : (stream : List ℕ) (a b : Front) → IsFront stream a → IsFront stream b → a ≡ b
+one_front : (stream : List ℕ) (a b : StreamFront) → IsFront stream a → IsFront stream b → a ≡ b
 one_front stream a b x y = elim (headless stream a x) [
   | inl p ↦ elim (headless stream b y) [
     | inl q ↦

@@ -10,12 +10,13 @@ use Rattle.httparse.specs.declared.spans.RequestSpans.{RequestSpans}
 use Rattle.lrs_http.specs.declared.request.Request.{Request}
 use Rattle.lrs_http.specs.declared.request.RequestRefused.{RequestRefused}
 use Rattle.lrs_http.specs.declared.request.RequestRefused.TheVariants as refused
-use Rattle.lrs_http.specs.Head.{HeadParts, parts_of, announced, request_of, most_fields}
+use Rattle.lrs_http.specs.Head.{HeadParts, parts_of, announced, request_of}
 use Rattle.lrs_http.specs.Links.{stream_left, GivesRefusal, GivesNext, IsCause}
 use Rattle.httparse.specs.Spans.{span_bytes, header_bytes, name_and_value}
 use Rattle.lrs_http.specs.Prospect.{IsHeadAt, IsRequestRefused, IsJudged, parts_at}
 use Rattle.lrs_http.specs.Reading.{IsAtEnd, IsBodyAt, IsNoBody, IsEarlyEnd, IsQuiet}
-use Rattle.lrs_http.specs.Stream.{stands, IsItem, Item, item_with, with_body, window, longest_head}
+use Rattle.lrs_http.specs.Stream.{stands, IsItem, Item, item_with, with_body, window}
+use Rattle.lrs_http.specs.declared.heads.TheConstants.{LONGEST_HEAD, MOST_FIELDS}
 
 -- a refusal that the whole stream asks for
 given : (before : Option (List ℕ)) (e : RequestRefused) → IfSome before (λ stream. IsItem stream (Err e)) → GivesRefusal before e
@@ -54,7 +55,7 @@ refused_early kept left e known = ⊎_elim
     told (Some rest) f = f rest
 
 finally : (kept : List ℕ) (e : RequestRefused) → IsJudged kept e
-    → (e ≡ refused.Memory) ⊎ ((more : List ℕ) → (length kept < longest_head → more ≡ []) → IsItem (kept ++ more) (Err e))
+    → (e ≡ refused.Memory) ⊎ ((more : List ℕ) → (length kept < LONGEST_HEAD → more ≡ []) → IsItem (kept ++ more) (Err e))
 finally kept refused.End known = inr known
 finally kept (refused.Malformed rule) known = inr known
 finally kept refused.HeadTooLong known = inr known
@@ -65,15 +66,15 @@ finally kept refused.Cut known = inr known
 finally kept refused.LinkFault known = absurd known
 finally kept refused.Memory known = inl refl
 
-pub refused_last : (kept : List ℕ) (left : Option (List ℕ)) (e : RequestRefused) → (length kept < longest_head → IsAtEnd left) → IsJudged kept e
+pub refused_last : (kept : List ℕ) (left : Option (List ℕ)) (e : RequestRefused) → (length kept < LONGEST_HEAD → IsAtEnd left) → IsJudged kept e
     → GivesRefusal (stream_left kept left) e
 refused_last kept left e ends known = ⊎_elim
     (λ is. memory_is_free (stream_left kept left) e is)
     (λ f. given (stream_left kept left) e (told left ends f))
     (finally kept e known)
   where
-    told : (l : Option (List ℕ)) → (length kept < longest_head → IsAtEnd l)
-        → ((more : List ℕ) → (length kept < longest_head → more ≡ []) → IsItem (kept ++ more) (Err e)) → IfSome (stream_left kept l) (λ stream. IsItem stream (Err e))
+    told : (l : Option (List ℕ)) → (length kept < LONGEST_HEAD → IsAtEnd l)
+        → ((more : List ℕ) → (length kept < LONGEST_HEAD → more ≡ []) → IsItem (kept ++ more) (Err e)) → IfSome (stream_left kept l) (λ stream. IsItem stream (Err e))
     told None ends f = tt
     told (Some rest) ends f = f rest ends
 
@@ -218,7 +219,7 @@ pub target_text : (kept : List ℕ) (fields : List HeaderSpan) (spans : RequestS
 unfolding parts_at parts_of
 target_text kept fields spans at = subst (λ (l : List ℕ). IsUtf8 l) (sym (ap (λ (p : HeadParts). p.target) at.parts)) (at.front []).0.0.target_text
 
-pub few_fields : (kept : List ℕ) (fields : List HeaderSpan) (spans : RequestSpans) → IsHeadAt kept fields spans → spans.headers ≤ most_fields
+pub few_fields : (kept : List ℕ) (fields : List HeaderSpan) (spans : RequestSpans) → IsHeadAt kept fields spans → spans.headers ≤ MOST_FIELDS
 unfolding parts_at parts_of
 few_fields kept fields spans at =
     let one = length-map (take spans.headers fields) (header_bytes (window kept)) in

@@ -1,6 +1,6 @@
 -- Bytes that go out piece by piece.
-use Rattle.std.proofs.Common.{◌≡◌, ℕ, ◌+◌, ◌-◌, ◌<◌, ◌≤◌, List, [], ◌∷◌, ◌++◌, length, take, drop, Option, Some, None, option_map, refl, sym, ap, ◌∙◌, subst, arith, append_assoc, append-nil, length-drop, inl, inr, Bor}
-use Rattle.std.proofs.lemmas.List.{take_all, take-append-drop, drop-drop}
+use Rattle.std.proofs.Common.{◌≡◌, ℕ, ◌+◌, ◌-◌, ◌<◌, ◌≤◌, List, [], ◌∷◌, ◌++◌, length, take, drop, Option, Some, None, option_map, refl, sym, ap, ◌∙◌, subst, arith, append_assoc, append-nil, inl, inr, Bor}
+use Rattle.std.proofs.lemmas.List.{take-append-drop, drop-drop}
 use Rattle.std.specs.Prelude.{Bool, true, false, ◌==◌, ◌&&◌, nat_le, nat_lt, decimal, codes, not, unwrap_or}
 use Rattle.std.specs.List.{list_any, list_all}
 use Rattle.std.proofs.lemmas.Bool.{cases_Bool, false≢true, and_parts}
@@ -10,7 +10,7 @@ use Rattle.lrs_disk.specs.Faults.{Rises}
 use Rattle.lrs_http.specs.Links.{Sends, SendsPart, LinkView, IsWritten}
 use Rattle.lrs_http.specs.Response.{IsStatus, statuses, status_line, phrase_of, line_end, where_so, field, field_of, response_of}
 
-nothing_more : (before : Option (List ℕ)) → before ≡ option_map (λ taken. taken ++ []) before
+pub nothing_more : (before : Option (List ℕ)) → before ≡ option_map (λ taken. taken ++ []) before
 nothing_more None = refl
 nothing_more (Some taken) = ap Some (sym (append-nil taken))
 

@@ -1,6 +1,6 @@
 -- The fields of a head (RFC 9110, section 5): names, which are compared in any case, and values without the white space
 -- around them.
-use Rattle.std.specs.Prelude.{ℕ, nat_le, nat_lt, ◌==◌, ◌&&◌, Bool, true, List, take, drop, find, count_by, length}
+use Rattle.std.specs.Prelude.{ℕ, nat_le, nat_lt, ◌==◌, ◌&&◌, Bool, true, List, find, count_by, length}
 use Rattle.std.specs.Prelude.{Option, Some, None, option_map, codes}
 use Rattle.std.specs.List.{list_all, list_any, slice_split}
 use Rattle.std.specs.Char.{is_ascii_digit}

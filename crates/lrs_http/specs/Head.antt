@@ -16,14 +16,6 @@ use Rattle.lrs_http.specs.declared.fields.TheConstants.{LONGEST_BODY}
 use Rattle.lrs_http.specs.declared.heads.TheConstants.{MOST_FIELDS}
 use Rattle.std.specs.Str.{bytes_eq}
 
--- the most fields that a head may have
-abbrev pub most_fields : ℕ
-most_fields = MOST_FIELDS
-
--- the most bytes that a body may have
-abbrev pub longest_body : ℕ
-longest_body = LONGEST_BODY
-
 -- what counts of a head
 pub record HeadParts : Type 0 where
   pub method : List ℕ
@@ -92,7 +84,7 @@ unfoldable pub stated_length : Method → Option (List ℕ) → Result ℕ Reque
 stated_length m None = if wants_length m then Err refused.NoLength else Ok 0
 stated_length m (Some value) =
     if is_length value
-    then (if nat_lt longest_body (digits_value 10 value) then Err refused.BodyTooLong else Ok (digits_value 10 value))
+    then (if nat_lt LONGEST_BODY (digits_value 10 value) then Err refused.BodyTooLong else Ok (digits_value 10 value))
     else Err (refused.Malformed 2)
 
 -- the length of the body after a head (RFC 9112, section 6.3)
@@ -105,5 +97,5 @@ body_length m fields =
 -- the length of the body that a head announces, if the head is in order
 unfoldable pub announced : HeadParts → Result ℕ RequestRefused
 announced parts =
-    if nat_lt most_fields (length parts.fields) then Err refused.HeadTooLong else (
+    if nat_lt MOST_FIELDS (length parts.fields) then Err refused.HeadTooLong else (
     if has_texts parts.fields then body_length (method_of parts.method) parts.fields else Err (refused.Malformed 1))

@@ -8,16 +8,17 @@ use Rattle.lrs_http.specs.declared.heads.Prospect.{Prospect}
 use Rattle.lrs_http.specs.declared.heads.Prospect.TheVariants.{Whole, Crowded, Open, Doubtful, Never}
 use Rattle.lrs_http.specs.declared.request.RequestRefused.{RequestRefused}
 use Rattle.lrs_http.specs.declared.request.RequestRefused.TheVariants as refused
-use Rattle.lrs_http.specs.Head.{HeadParts, parts_of, most_fields}
-use Rattle.lrs_http.specs.Stream.{stands, IsFront, IsItem, window, longest_head}
+use Rattle.lrs_http.specs.Head.{HeadParts, parts_of}
+use Rattle.lrs_http.specs.Stream.{stands, IsFront, IsItem, window}
 use Rattle.std.specs.Prelude.{Err, ⊤, [], ◌<◌, Bool, true, false}
+use Rattle.lrs_http.specs.declared.heads.TheConstants.{LONGEST_HEAD, MOST_FIELDS}
 
 -- what a look at the bytes says
 abbrev pub IsProspect : List ℕ → List HeaderSpan → Prospect → Type 0
 IsProspect bytes fields (Whole spans) =
     IsRequestWithin bytes fields spans × ((head : RequestHead) × IsRequestAt bytes fields spans head)
 IsProspect bytes fields Crowded = (head : RequestHead) × (rest : List ℕ) × ReadsRequest bytes head rest
-    × (most_fields < length head.fields)
+    × (MOST_FIELDS < length head.fields)
 IsProspect bytes fields Open = HasNoRequest bytes × MayBecomeRequest bytes
 IsProspect bytes fields Doubtful = HasNoRequest bytes × ¬ (MayBecomeRequest bytes)
 IsProspect bytes fields Never = (more : List ℕ) → HasNoRequest (bytes ++ more) × ¬ (MayBecomeRequest (bytes ++ more))
@@ -35,7 +36,7 @@ parts_at bytes fields spans = record {
 pub record IsHeadAt (bytes : List ℕ) (fields : List HeaderSpan) (spans : RequestSpans) : Type 0 where
   pub within : IsRequestWithin (window bytes) fields spans
   pub head : RequestHead
-  pub few : length head.fields ≤ most_fields
+  pub few : length head.fields ≤ MOST_FIELDS
   pub parts : parts_at (window bytes) fields spans ≡ parts_of head
   pub front : (more : List ℕ) → IsFront (bytes ++ more) (stands head (drop spans.len (bytes ++ more)))
 
@@ -49,7 +50,7 @@ IsRequestRefused bytes refusal = (more : List ℕ) → IsItem (bytes ++ more) (E
 abbrev pub IsJudged : List ℕ → RequestRefused → Type 0
 IsJudged bytes refused.Memory = ⊤
 IsJudged bytes refused.LinkFault = ⊥
-IsJudged bytes refusal = (more : List ℕ) → (length bytes < longest_head → more ≡ [])
+IsJudged bytes refusal = (more : List ℕ) → (length bytes < LONGEST_HEAD → more ≡ [])
     → IsItem (bytes ++ more) (Err refusal)
 
 -- why bytes are refused that are fewer than a head may have, are empty lines alone, or may become a head

@@ -8,46 +8,41 @@ use Rattle.lrs_http.specs.declared.request.RequestRefused.{RequestRefused}
 use Rattle.lrs_http.specs.declared.request.RequestRefused.TheVariants as refused
 use Rattle.lrs_http.specs.Head.{HeadParts, parts_of, announced, request_of}
 use Rattle.lrs_http.specs.declared.heads.TheConstants.{LONGEST_HEAD}
-use Rattle.lrs_http.specs.declared.reading.TheConstants.{MOST_REQUESTS}
-
--- the most bytes that a head may have, the empty lines before it among them
-abbrev pub longest_head : ℕ
-longest_head = LONGEST_HEAD
 
 -- the bytes in which a head has to stand
 abbrev pub window : List ℕ → List ℕ
-window stream = take longest_head stream
+window stream = take LONGEST_HEAD stream
 
 -- a CR or LF
 abbrev pub is_line_end : ℕ → Bool
 is_line_end b = b == 13 || b == 10
 
 -- What stands at the beginning of a stream.
-pub data Front : Type 0 where
+pub data StreamFront : Type 0 where
   -- a head, and the bytes after it
-  stands : RequestHead → List ℕ → Front
+  stands : RequestHead → List ℕ → StreamFront
   -- nothing, or empty lines that no head follows
-  blank : Front
+  blank : StreamFront
   -- what no further bytes make a head
-  wrong : Front
+  wrong : StreamFront
   -- a head that is too long, or one that the stream's end cuts
-  long short : Front
+  long short : StreamFront
 
 -- nothing is left, or empty lines
 abbrev pub IsBlank : List ℕ → Type 0
-IsBlank stream = (length stream < longest_head) × (list_all is_line_end stream ≡ true)
+IsBlank stream = (length stream < LONGEST_HEAD) × (list_all is_line_end stream ≡ true)
 
 -- if no head stands at the beginning, the first of these that holds says what stands there
-abbrev pub IsNoHead : List ℕ → Front → Type 0
+abbrev pub IsNoHead : List ℕ → StreamFront → Type 0
 IsNoHead stream (stands head behind) = ⊥
 IsNoHead stream blank = IsBlank stream
 IsNoHead stream wrong = ¬ (IsBlank stream) × ¬ (MayBecomeRequest (window stream))
-IsNoHead stream long = (longest_head ≤ length stream) × MayBecomeRequest (window stream)
-IsNoHead stream short = (length stream < longest_head) × (list_all is_line_end stream ≡ false)
+IsNoHead stream long = (LONGEST_HEAD ≤ length stream) × MayBecomeRequest (window stream)
+IsNoHead stream short = (length stream < LONGEST_HEAD) × (list_all is_line_end stream ≡ false)
     × MayBecomeRequest (window stream)
 
-abbrev pub IsFront : List ℕ → Front → Type 0
-IsFront stream (stands head behind) = ReadsRequest stream head behind × (length (print_request head) ≤ longest_head)
+abbrev pub IsFront : List ℕ → StreamFront → Type 0
+IsFront stream (stands head behind) = ReadsRequest stream head behind × (length (print_request head) ≤ LONGEST_HEAD)
 IsFront stream front = HasNoRequest (window stream) × IsNoHead stream front
 
 -- a request and the stream after it, or why there is none
@@ -63,7 +58,7 @@ abbrev pub with_body : HeadParts → List ℕ → Result ℕ RequestRefused → 
 with_body parts behind (Ok n) = item_with parts behind n
 with_body parts behind (Err refusal) = Err refusal
 
-abbrev pub item_of : Front → Item
+abbrev pub item_of : StreamFront → Item
 item_of (stands head behind) = with_body (parts_of head) behind (announced (parts_of head))
 item_of blank = Err refused.End
 item_of wrong = Err (refused.Malformed 1)
@@ -72,11 +67,7 @@ item_of short = Err refused.Cut
 
 -- what stands next on a stream
 abbrev pub IsItem : List ℕ → Item → Type 0
-IsItem stream item = (front : Front) × IsFront stream front × (item ≡ item_of front)
-
--- the most requests of a connection
-abbrev pub most_requests : ℕ
-most_requests = MOST_REQUESTS
+IsItem stream item = (front : StreamFront) × IsFront stream front × (item ≡ item_of front)
 
 -- The requests of a stream, one after the other, and how they end: by a refusal, or with none if the last request is
 -- one that ends the connection.

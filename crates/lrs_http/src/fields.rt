@@ -5,9 +5,10 @@ ghost use Rattle.std.specs.List.{list_all, position_or_len};
 ghost use Rattle.std.specs.Option.{option_copied};
 ghost use Rattle.httparse.specs.Spans.{IsHeaderWithin, IsRequestWithin, header_bytes, span_bytes};
 ghost use Rattle.lrs_http.specs.Fields.{is_comma, first_value, count_named, is_close, asks_to_close, is_length, is_text};
-ghost use Rattle.lrs_http.specs.Head.{HeadParts, method_of, path_of, query_of, closes_of, request_of, has_texts, stated_length, body_length, announced, most_fields, longest_body};
+ghost use Rattle.lrs_http.specs.Head.{HeadParts, method_of, path_of, query_of, closes_of, request_of, has_texts, stated_length, body_length, announced};
 ghost use Rattle.lrs_http.specs.Prospect.{parts_at};
 ghost use Rattle.lrs_http.specs.Reading.{IsNoText, IsQuiet};
+ghost use Rattle.lrs_http.specs.declared.heads.TheConstants.{MOST_FIELDS};
 
 use crate::{Method, Request, RequestRefused};
 use httparse::spans::{HeaderSpan, RequestSpans};
@@ -131,7 +132,7 @@ fn is_length(value: &[u8]) -> bool
 #[tactic(auto, unfolding(crate::specs::Head::stated_length))]
 fn stated_length(method: Method, value: Option<&[u8]>) -> Result<usize, RequestRefused>
     ensures value { result ≡ stated_length method (option_copied value.entry) }
-    ensures bound { IfOk result (λ n. n ≤ longest_body) }
+    ensures bound { IfOk result (λ n. n ≤ LONGEST_BODY) }
     ensures quiet { IfErr result IsQuiet }
 {
     let Some(value) = value else {
@@ -154,7 +155,7 @@ fn stated_length(method: Method, value: Option<&[u8]>) -> Result<usize, RequestR
 fn body_length(bytes: &[u8], fields: &[HeaderSpan], method: Method) -> Result<usize, RequestRefused>
     requires { All (IsHeaderWithin (length bytes.now)) fields.now }
     ensures value { result ≡ body_length method (map (header_bytes bytes.now) fields.now) }
-    ensures bound { IfOk result (λ n. n ≤ longest_body) }
+    ensures bound { IfOk result (λ n. n ≤ LONGEST_BODY) }
     ensures quiet { IfErr result IsQuiet }
 {
     if first_value(bytes, fields, b"transfer-encoding").is_some() {
@@ -240,11 +241,11 @@ pub(crate) fn take_head(
     spans: RequestSpans,
 ) -> Result<(Request, usize), RequestRefused>
     requires within { IsRequestWithin bytes.now fields.now spans }
-    requires few { spans.headers ≤ most_fields }
+    requires few { spans.headers ≤ MOST_FIELDS }
     requires text { IsUtf8 (span_bytes bytes.now spans.path) }
     ensures request { IfOk result (λ taken. taken.0 ≡ request_of (parts_at bytes.now fields.now spans) []) }
     ensures length { IfOk result (λ taken. announced (parts_at bytes.now fields.now spans) ≡ Ok taken.1) }
-    ensures bound { IfOk result (λ taken. taken.1 ≤ longest_body) }
+    ensures bound { IfOk result (λ taken. taken.1 ≤ LONGEST_BODY) }
     ensures refused { IfErr result
         (λ refusal. (refusal ≡ RequestRefused.Memory)
         ⊎ (announced (parts_at bytes.now fields.now spans) ≡ Err refusal)) }

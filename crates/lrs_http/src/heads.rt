@@ -3,10 +3,9 @@ ghost use Rattle.std.specs.Prelude.{◌≡◌, ◌≤◌, IfOk, IfErr, IfSome, f
 ghost use Rattle.std.specs.List.{list_all};
 ghost use Rattle.httparse.specs.Grammar.{is_uri_byte, NeverHasRequest};
 ghost use Rattle.httparse.specs.Spans.{RequestOverflows};
-ghost use Rattle.lrs_http.specs.Head.{most_fields};
 ghost use Rattle.lrs_http.specs.Prospect.{IsProspect, IsHeadAt, IsRequestRefused, IsJudged, refusal_for};
 ghost use Rattle.lrs_http.specs.Reach.{reaches, method_reaches};
-ghost use Rattle.lrs_http.specs.Stream.{window, longest_head, is_line_end};
+ghost use Rattle.lrs_http.specs.Stream.{window, is_line_end};
 
 use crate::RequestRefused;
 use httparse::spans::{EMPTY_HEADER_SPAN, HeaderSpan, RequestSpans, parse_request};
@@ -96,8 +95,8 @@ fn headless(bytes: &[u8], fields: &[HeaderSpan]) -> Prospect
 
 // Looks at bytes whose head, if they have one, has more fields than a head may have.
 fn examine_crowded(alloc: Global, bytes: &[u8], fields: &[HeaderSpan]) -> Result<Prospect, Memory>
-    requires short { length bytes.now ≤ longest_head }
-    requires crowded { RequestOverflows most_fields bytes.now }
+    requires short { length bytes.now ≤ LONGEST_HEAD }
+    requires crowded { RequestOverflows MOST_FIELDS bytes.now }
     ensures { IfOk result (IsProspect bytes.now fields.now) }
 {
     let mut room = vec![in alloc; EMPTY_HEADER_SPAN; ROOM]?;
@@ -113,7 +112,7 @@ fn examine(
     bytes: &[u8],
     fields: &mut [HeaderSpan; MOST_FIELDS],
 ) -> Result<Prospect, Memory>
-    requires { length bytes.now ≤ longest_head }
+    requires { length bytes.now ≤ LONGEST_HEAD }
     ensures { IfOk result (IsProspect bytes.now fields.new) }
 {
     match parse_request(bytes, fields) {
@@ -127,7 +126,7 @@ fn examine(
 /// The bytes in which a head has to stand.
 pub(crate) fn window_of(bytes: &[u8]) -> &[u8]
     ensures value { result.now ≡ window bytes.now }
-    ensures short { length result.now ≤ longest_head }
+    ensures short { length result.now ≤ LONGEST_HEAD }
 {
     &bytes[..bytes.len().min(LONGEST_HEAD)]
 }
@@ -157,7 +156,7 @@ pub(crate) fn look(
 
 // Why bytes without a head are refused.
 fn refusal_of(bytes: &[u8], may_become: bool) -> RequestRefused
-    ensures { result ≡ refusal_for (nat_lt (length bytes.now) longest_head)
+    ensures { result ≡ refusal_for (nat_lt (length bytes.now) LONGEST_HEAD)
         (list_all is_line_end bytes.now) may_become }
 {
     if bytes.len() < LONGEST_HEAD && is_blank(bytes) {

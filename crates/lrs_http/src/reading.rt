@@ -4,7 +4,6 @@ ghost use Rattle.lrs_disk.specs.Faults.{HasCause};
 ghost use Rattle.lrs_http.specs.Links.{stream_left, GivesNext, GivesRefusal, HasLinkCause};
 ghost use Rattle.lrs_http.specs.Prospect.{IsHeadAt};
 ghost use Rattle.lrs_http.specs.Reading.{IsAtEnd, IsBodyAt, IsNoBody, IsEarlyEnd};
-ghost use Rattle.lrs_http.specs.Stream.{longest_head};
 
 use crate::fields::take_head;
 use crate::heads::{LONGEST_HEAD, MOST_FIELDS, judge, look, window_of};
@@ -73,7 +72,7 @@ fn read_behind<L: Link>(link: &mut L, bytes: &mut [u8], held: usize) -> Result<u
 
 // Reads a piece after what is kept, and answers whether there was one.
 fn read_piece<L: Link>(link: &mut L, kept: &mut Vec<u8>) -> Result<bool, RequestRefused>
-    requires { vec_len kept.old < longest_head }
+    requires { vec_len kept.old < LONGEST_HEAD }
     ensures left { stream_left kept.new.items (L.left link.new) ≡ stream_left kept.old.items (L.left link.old) }
     ensures more { IfOk result (λ more. more ≡ true → vec_len kept.old < vec_len kept.new) }
     ensures end { IfOk result (λ more. more ≡ false → IsAtEnd (L.left link.new)) }
@@ -185,7 +184,8 @@ fn fill_vector<L: Link>(link: &mut L, body: &mut Vec<u8>, held: usize) -> Result
     fill(link, body.as_mut_slice(), held)
 }
 
-// Takes the body after a head: what is kept of it first, and the rest from the link, straight into its place.
+// Takes the body after a head: what is kept of it first, and the rest from the link, straight into the memory
+// that was made for it.
 fn read_body<L: Link>(
     alloc: Global,
     link: &mut L,

@@ -54,7 +54,7 @@ in_row w (suc n) id e = elim (or_cases (bytes_eq id (id_of_word (w + n))) (is_me
   | inr later ↦ let found = in_row w n id later in (found.0, omega (arith, found.1), found.2)
 ]
 
-differs : (xs ys : List ℕ) → (xs ≡ ys → ⊥) → bytes_eq xs ys ≡ false
+pub differs : (xs ys : List ℕ) → (xs ≡ ys → ⊥) → bytes_eq xs ys ≡ false
 differs xs ys ne = elim (bytes_eq xs ys) as (λ b. bytes_eq xs ys ≡ b → b ≡ false) [ true ↦ λ e. absurd (ne (same_text xs ys (sym e))) | false ↦ λ e. refl ] refl
 
 all_apart : (w n k : ℕ) → n ≤ k → k < WORDS → AllByRecursion (λ y. bytes_eq (id_of_word (w + k)) y ≡ false) (row w n)

@@ -1,11 +1,7 @@
 -- Loops over a list that stop at the first that passes: what is left of the list tells as much as the whole.
-use Rattle.std.proofs.Common.{◌≡◌, ℕ, ◌+◌, ◌<◌, ◌≤◌, List, [], ◌∷◌, length, get_or, drop, Bool, true, false, ◌&&◌, ◌||◌, sym, ap, ◌∙◌}
+use Rattle.std.proofs.Common.{◌≡◌, ℕ, ◌+◌, ◌≤◌, List, [], ◌∷◌, length, drop, Bool, true, false, ◌&&◌, ◌||◌, sym, ap, ◌∙◌}
 use Rattle.std.specs.List.{list_all, list_any}
-use Rattle.std.proofs.lemmas.List.{at_drop_all, drop_more}
-
--- the next of a list
-pub turn : {A : Type 0} (xs : List A) (i : ℕ) (x : A) → i < length xs → x ≡ get_or xs i x → drop i xs ≡ x ∷ drop (i + 1) xs
-turn xs i x less is = drop_more xs i x less ∙ ap (λ y. y ∷ drop (i + 1) xs) (sym is)
+use Rattle.std.proofs.lemmas.List.{at_drop_all}
 
 -- what is found is found in the rest, where the next one tells nothing, else by the next one
 pub next_passed : {A B : Type 0} (f : List A → B) (xs : List A) (i : ℕ) (x : A) (all : B) → drop i xs ≡ x ∷ drop (i + 1) xs → f (x ∷ drop (i + 1) xs) ≡ f (drop (i + 1) xs) → f (drop i xs) ≡ all → f (drop (i + 1) xs) ≡ all

@@ -9,7 +9,7 @@ ghost use Rattle.lrs_in_memory.specs.Schedule.{IsDue, IsNext};
 
 use crate::clock::Clock;
 use crate::door::MemDoor;
-use lrs_disk::{Door, DoorsRefused, Lobby};
+use lrs_disk::{Door, DoorsRefused, Lobby, MOST_DOORS};
 use lrs_in_memory::Plan;
 use std::alloc::Global;
 use std::mem;
@@ -111,7 +111,7 @@ impl Lobby for MemLobby {
         address: &str,
         count: usize,
     ) -> Result<Vec<MemDoor>, DoorsRefused>
-        requires { (1 ≤ count) × (count ≤ 16) }
+        requires { (1 ≤ count) × (count ≤ MOST_DOORS) }
         ensures number { IfOk result (λ doors. length doors.items ≡ count) }
         ensures fresh { IfOk result (λ doors. All (λ door. IsFresh (state_of door)) doors.items) }
         ensures asked { AsksForDoors (record { address = address.now; count = count }) result (Some (asked_of self.old))

@@ -5,7 +5,7 @@ use Rattle.std.proofs.lemmas.Nat.{from_be_bytes-to_be_bytes_4}
 use Rattle.std.specs.Int.{w32, to_be_bytes, from_be_bytes}
 use Rattle.lrs_journal.specs.Store.{store, header, body, Stands, HasHeader, IsDamaged, IsEnd, IsPayload, payloads_in}
 use Rattle.lrs_journal.specs.Replay.{HasReadTo, IsWholeFrame, IsTorn}
-use Rattle.lrs_journal.specs.Steps.{Reads, IsEndOffset, IsSettled, IsSound, IsReplay, IsClosed, IsCutBack}
+use Rattle.lrs_journal.specs.Steps.{GivesBytes, IsEndOffset, IsSettled, IsSound, IsReplay, IsClosed, IsCutBack}
 use Rattle.lrs_journal.specs.Journal.{settled, frames_of, TellsAlike}
 use Rattle.lrs_journal.proofs.Told.{told_on, told_back}
 use Rattle.lrs_journal.proofs.Doubt.{placed_push, frame_read}
@@ -180,7 +180,7 @@ replay_more told image limit size offset number ended into len r small long whol
 -- ---- the end
 
 module _ {D : Type 0} (told : D → Option (List ℕ)) (image : D → List ℕ → Type 0) (reads : (disk : D) (b : List ℕ) → told disk ≡ Some b → image disk b) (d0 d1 : D) (limit offset number : ℕ) where
-  pub closed_settled : (x : List ℕ) (payloads : List (List ℕ)) → told d0 ≡ Some x → HasReadTo x limit offset number payloads → ((c : List ℕ) → image d1 c → IsClosed offset (Reads told d0) c)
+  pub closed_settled : (x : List ℕ) (payloads : List (List ℕ)) → told d0 ≡ Some x → HasReadTo x limit offset number payloads → ((c : List ℕ) → image d1 c → IsClosed offset (GivesBytes told d0) c)
       → IsSettled (image d1) limit offset number payloads
   closed_settled x payloads told_x h closed = record {
     placed = placed_of x limit offset number payloads h;
@@ -191,7 +191,7 @@ module _ {D : Type 0} (told : D → Option (List ℕ)) (image : D → List ℕ �
     counts = h.counts;
   }
 
-  pub after_closed : (size : ℕ) (ended : Bool) → IsReplay (told d0) (image d0) limit size offset number ended → TellsAlike (told d0) (told d1) → ((c : List ℕ) → image d1 c → IsClosed offset (Reads told d0) c)
+  pub after_closed : (size : ℕ) (ended : Bool) → IsReplay (told d0) (image d0) limit size offset number ended → TellsAlike (told d0) (told d1) → ((c : List ℕ) → image d1 c → IsClosed offset (GivesBytes told d0) c)
       → IsSound (told d1) (image d1) limit offset number None
   after_closed size ended r alike closed = record {
     least = r.least;
@@ -203,7 +203,7 @@ module _ {D : Type 0} (told : D → Option (List ℕ)) (image : D → List ℕ �
         (tied.0, closed_settled old.0 tied.0 old.1 tied.1 closed);
   }
 
-  pub closed_frames : (x : List ℕ) (payloads : List (List ℕ)) → told d0 ≡ Some x → HasReadTo x limit offset number payloads → TellsAlike (told d0) (told d1) → ((c : List ℕ) → image d1 c → IsClosed offset (Reads told d0) c)
+  pub closed_frames : (x : List ℕ) (payloads : List (List ℕ)) → told d0 ≡ Some x → HasReadTo x limit offset number payloads → TellsAlike (told d0) (told d1) → ((c : List ℕ) → image d1 c → IsClosed offset (GivesBytes told d0) c)
       → frames_of told (seen d1 limit offset number None) ≡ Some payloads
   closed_frames x payloads told_x h alike closed =
       let new = told_on (told d0) (told d1) x alike told_x in

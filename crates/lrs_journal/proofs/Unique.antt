@@ -58,8 +58,8 @@ pub stands_whole : (bytes : List ℕ) (l m : ℕ) (ps qs : List (List ℕ)) → 
 stands_whole bytes l m ps qs s d = frames_whole ps qs s.rest d.rest s.sizes d.sizes s.ends d.more d.torn (ap (λ (x : List ℕ). drop HEADER x) (sym s.split ∙ d.split))
 
 -- a replay that went no further has read the same
-pub same_place_read : {D : Type 0} (bytes : List ℕ) (old new : Replay D) (ps : List (List ℕ)) → HasSameOffset old new → new.limit ≡ old.limit → HasRead bytes old ps → HasRead bytes new ps
-same_place_read bytes old new ps same limit read =
+pub same_offset_read : {D : Type 0} (bytes : List ℕ) (old new : Replay D) (ps : List (List ℕ)) → HasSameOffset old new → new.limit ≡ old.limit → HasRead bytes old ps → HasRead bytes new ps
+same_offset_read bytes old new ps same limit read =
     subst (λ (l : ℕ). HasReadTo bytes l new.offset new.number ps) (sym limit)
     (subst (λ (p : ℕ). HasReadTo bytes old.limit p new.number ps) (sym same.0) (subst (λ (n : ℕ). HasReadTo bytes old.limit old.offset n ps) (sym same.1) read))
 

@@ -9,8 +9,8 @@ use Rattle.lrs_journal.specs.Replay.{HasReadTo}
 use Rattle.lrs_journal.specs.declared.sizes.TheConstants.{FRAME_HEAD, LEAST_BYTES, MOST_BYTES}
 
 -- a read of the disk gives these bytes
-abbrev pub Reads : {D : Type 0} → (D → Option (List ℕ)) → D → List ℕ → Type 0
-Reads told disk bytes = told disk ≡ Some bytes
+abbrev pub GivesBytes : {D : Type 0} → (D → Option (List ℕ)) → D → List ℕ → Type 0
+GivesBytes told disk bytes = told disk ≡ Some bytes
 
 -- one of the old images up to this offset, and after it anything
 abbrev pub KeepsUpTo : ℕ → (List ℕ → Type 0) → List ℕ → Type 0

@@ -4,7 +4,7 @@ ghost use Rattle.std.specs.Option.{ForSome};
 ghost use Rattle.lrs_disk.specs.Disk.{LeavesOnly};
 ghost use Rattle.lrs_disk.specs.Faults.{HasCause};
 ghost use Rattle.lrs_journal.specs.Journal.{frames_of, IsJournal, IsSynced, TellsAlike, HasCount};
-ghost use Rattle.lrs_journal.specs.Steps.{Reads, KeepsUpTo, AtRest, IsBlank, IsShort, IsCutShort, behind_gate};
+ghost use Rattle.lrs_journal.specs.Steps.{GivesBytes, KeepsUpTo, AtRest, IsBlank, IsShort, IsCutShort, behind_gate};
 ghost use Rattle.lrs_journal.specs.Create.{IsStore, IsForeign, IsOpenTo, IsCreateRefused, IsMade, IsUntouched, need_of_first};
 ghost use Rattle.lrs_journal.specs.declared.create.CreateRefused.TheVariants as CreateRefused;
 ghost use Rattle.lrs_journal.specs.Store.{IsLimit};
@@ -58,8 +58,8 @@ fn look(head: &[u8]) -> Result<(), CreateRefused>
 
 // Cuts a disk to one byte.
 fn shorten<D: Disk>(disk: &mut D, size: u64) -> Result<(), Failed>
-    requires size { (b : List ℕ) → Reads D.told disk.old b → size ≡ length b }
-    ensures short { OnOk result ((b : List ℕ) → Reads D.told disk.new b → IsShort b) }
+    requires size { (b : List ℕ) → GivesBytes D.told disk.old b → size ≡ length b }
+    ensures short { OnOk result ((b : List ℕ) → GivesBytes D.told disk.new b → IsShort b) }
     ensures synced { OnOk result (IsSynced D.told D.image disk.old → IsSynced D.told D.image disk.new) }
     ensures tells { TellsAlike (D.told disk.old) (D.told disk.new) }
     ensures any_moment { LeavesOnly D.time D.image_since disk.old disk.new (IsCutShort (D.image disk.old)) }
@@ -74,8 +74,8 @@ fn shorten<D: Disk>(disk: &mut D, size: u64) -> Result<(), Failed>
 
 // Writes the header after its gate, and the first frame's open gate.
 fn head<D: Disk>(disk: &mut D, limit: u64) -> Result<(), Failed>
-    requires shut { (b : List ℕ) → Reads D.told disk.old b → b ≡ 0 ∷ [] }
-    ensures written { OnOk result ((b : List ℕ) → Reads D.told disk.new b → b ≡ 0 ∷ behind_gate limit) }
+    requires shut { (b : List ℕ) → GivesBytes D.told disk.old b → b ≡ 0 ∷ [] }
+    ensures written { OnOk result ((b : List ℕ) → GivesBytes D.told disk.new b → b ≡ 0 ∷ behind_gate limit) }
     ensures tells { TellsAlike (D.told disk.old) (D.told disk.new) }
     ensures any_moment { LeavesOnly D.time D.image_since disk.old disk.new (KeepsUpTo 1 (D.image disk.old)) }
     ensures cause { HasCause (D.fault_count disk.old) (D.fault_count disk.new) result }
@@ -91,8 +91,8 @@ fn head<D: Disk>(disk: &mut D, limit: u64) -> Result<(), Failed>
 fn build<D: Disk>(disk: &mut D, size: u64, limit: u64, first: &[u8]) -> Result<(), Failed>
     requires limit { IsLimit limit }
     requires first { need_of_first first.now < 2 ^ 32 }
-    requires blank { (b : List ℕ) → Reads D.told disk.old b → IsBlank b }
-    requires size { (b : List ℕ) → Reads D.told disk.old b → size ≡ length b }
+    requires blank { (b : List ℕ) → GivesBytes D.told disk.old b → IsBlank b }
+    requires size { (b : List ℕ) → GivesBytes D.told disk.old b → size ≡ length b }
     ensures made { OnOk result ((c : List ℕ) → D.image disk.new c → AtRest limit (first.now ∷ []) c) }
     ensures tells { TellsAlike (D.told disk.old) (D.told disk.new) }
     ensures later { D.time disk.old ≤ D.time disk.new }

@@ -7,7 +7,7 @@ ghost use Rattle.lrs_disk.specs.Faults.{HasCause, Rises};
 ghost use Rattle.lrs_journal.specs.Create.{IsUntouched};
 ghost use Rattle.lrs_journal.specs.Store.{header, HasHeader, Stands, IsDamaged};
 ghost use Rattle.lrs_journal.specs.Journal.{frames_of, IsJournal, IsSynced, Stores, TellsAlike, HasCount};
-ghost use Rattle.lrs_journal.specs.Steps.{Reads};
+ghost use Rattle.lrs_journal.specs.Steps.{GivesBytes};
 ghost use Rattle.lrs_journal.specs.Replay.{HasRead, IsAhead, IsFetched, IsFrameWithin, HasNextOffset, IsPassed, HasSameOffset};
 ghost use Rattle.lrs_journal.specs.declared.replay.RecoverRefused.TheVariants as RecoverRefused;
 ghost use Rattle.lrs_journal.specs.declared.replay.Ahead.TheVariants as Ahead;
@@ -133,7 +133,7 @@ fn ahead_of(gate: u8, size: u32, number: usize, left: u64) -> Ahead
 
 // Looks at the gate and the length that stand at an offset of a disk of so many bytes.
 fn look<D: Disk>(disk: &mut D, offset: u64, total: u64) -> Result<Ahead, Failed>
-    requires { (b : List ℕ) → Reads D.told disk.old b → total ≡ length b }
+    requires { (b : List ℕ) → GivesBytes D.told disk.old b → total ≡ length b }
     ensures found { IfOk result (λ ahead. ForSome (D.told disk.old) (λ bytes. IsAhead (drop offset bytes) ahead)) }
     ensures fits { IfOk result (λ ahead. (size : ℕ) → ahead ≡ Ahead.Frame size → (size < 2 ^ 32)
         × (offset + FRAME_HEAD + size ≤ total)) }
@@ -178,7 +178,7 @@ fn load<D: Disk>(
     size: u32,
     into: &mut Vec<u8>,
 ) -> Result<Ahead, ReplayRefused>
-    requires there { (b : List ℕ) → Reads D.told disk.old b → offset + size ≤ length b }
+    requires there { (b : List ℕ) → GivesBytes D.told disk.old b → offset + size ≤ length b }
     ensures whole { IfOk result (λ ahead. ForSome (D.told disk.old) (λ bytes. (ahead ≡ Ahead.Frame size)
         × (into.new.items ≡ take size (drop offset bytes)))) }
     ensures length { IfOk result (λ ahead. (n : ℕ) → ahead ≡ Ahead.Frame n → (n ≡ size)
@@ -203,7 +203,7 @@ fn fetch<D: Disk>(
     total: u64,
     into: &mut Vec<u8>,
 ) -> Result<Ahead, ReplayRefused>
-    requires { (b : List ℕ) → Reads D.told disk.old b → total ≡ length b }
+    requires { (b : List ℕ) → GivesBytes D.told disk.old b → total ≡ length b }
     ensures found { IfOk result (λ ahead. ForSome (D.told disk.old)
         (λ bytes. IsFetched bytes offset ahead into.new.items)) }
     ensures fits { IfOk result (λ ahead. (size : ℕ) → ahead ≡ Ahead.Frame size

@@ -4,7 +4,7 @@ ghost use Rattle.lrs_disk.specs.Disk.{written, LeavesOnly, Follows, Within};
 ghost use Rattle.lrs_disk.specs.Faults.{HasCause};
 ghost use Rattle.lrs_journal.specs.Store.{body, need_at};
 ghost use Rattle.lrs_journal.specs.Journal.{TellsAlike};
-ghost use Rattle.lrs_journal.specs.Steps.{Reads, KeepsUpTo, IsAtGate, IsCutBack, IsClosed};
+ghost use Rattle.lrs_journal.specs.Steps.{GivesBytes, KeepsUpTo, IsAtGate, IsCutBack, IsClosed};
 
 use crate::sizes::FRAME_HEAD;
 use lrs_disk::{Disk, Failed};
@@ -12,9 +12,9 @@ use lrs_disk::{Disk, Failed};
 /// Writes a frame's body and a closed gate after the gate at this offset, and syncs.
 pub(crate) fn stage<D: Disk>(disk: &mut D, offset: u64, payload: &[u8]) -> Result<(), Failed>
     requires fits { need_at offset payload.now < 2 ^ 32 }
-    requires gate { (b : List ℕ) → Reads D.told disk.old b → offset < length b }
+    requires gate { (b : List ℕ) → GivesBytes D.told disk.old b → offset < length b }
     ensures staged { OnOk result (Follows (λ b c. c ≡ written b (offset + 1) (body payload.now ++ 0
-        ∷ [])) (Reads D.told disk.old) (D.image disk.new)) }
+        ∷ [])) (GivesBytes D.told disk.old) (D.image disk.new)) }
     ensures tells { TellsAlike (D.told disk.old) (D.told disk.new) }
     ensures any_moment { LeavesOnly D.time D.image_since disk.old disk.new (KeepsUpTo (offset + 1) (D.image disk.old)) }
     ensures cause { HasCause (D.fault_count disk.old) (D.fault_count disk.new) result }
@@ -28,9 +28,9 @@ pub(crate) fn stage<D: Disk>(disk: &mut D, offset: u64, payload: &[u8]) -> Resul
 
 /// Writes a gate, and syncs.
 pub(crate) fn write_gate<D: Disk>(disk: &mut D, offset: u64, gate: u8) -> Result<(), Failed>
-    requires offset { (b : List ℕ) → Reads D.told disk.old b → offset ≤ length b }
+    requires offset { (b : List ℕ) → GivesBytes D.told disk.old b → offset ≤ length b }
     ensures written { OnOk result (Follows (λ b c. c ≡ written b offset (gate
-        ∷ [])) (Reads D.told disk.old) (D.image disk.new)) }
+        ∷ [])) (GivesBytes D.told disk.old) (D.image disk.new)) }
     ensures tells { TellsAlike (D.told disk.old) (D.told disk.new) }
     ensures any_moment { LeavesOnly D.time D.image_since disk.old disk.new (IsAtGate offset (D.image disk.old)) }
     ensures cause { HasCause (D.fault_count disk.old) (D.fault_count disk.new) result }
@@ -41,9 +41,9 @@ pub(crate) fn write_gate<D: Disk>(disk: &mut D, offset: u64, gate: u8) -> Result
 
 /// Cuts the disk at an offset, and puts a closed gate there.
 pub(crate) fn repair<D: Disk>(disk: &mut D, offset: u64) -> Result<(), Failed>
-    requires offset { (b : List ℕ) → Reads D.told disk.old b → offset ≤ length b }
-    requires fixed { Within (Reads D.told disk.old) (D.image disk.old) }
-    ensures closed { OnOk result (Within (IsClosed offset (Reads D.told disk.old)) (D.image disk.new)) }
+    requires offset { (b : List ℕ) → GivesBytes D.told disk.old b → offset ≤ length b }
+    requires fixed { Within (GivesBytes D.told disk.old) (D.image disk.old) }
+    ensures closed { OnOk result (Within (IsClosed offset (GivesBytes D.told disk.old)) (D.image disk.new)) }
     ensures tells { TellsAlike (D.told disk.old) (D.told disk.new) }
     ensures any_moment { LeavesOnly D.time D.image_since disk.old disk.new (IsCutBack offset (D.image disk.old)) }
     ensures cause { HasCause (D.fault_count disk.old) (D.fault_count disk.new) result }
@@ -57,9 +57,9 @@ pub(crate) fn repair<D: Disk>(disk: &mut D, offset: u64) -> Result<(), Failed>
 
 /// Makes the gate at an offset a closed one, if it isn't a 0.
 pub(crate) fn close_end<D: Disk>(disk: &mut D, offset: u64) -> Result<(), Failed>
-    requires offset { (b : List ℕ) → Reads D.told disk.old b → offset ≤ length b }
-    requires fixed { Within (Reads D.told disk.old) (D.image disk.old) }
-    ensures closed { OnOk result (Within (IsClosed offset (Reads D.told disk.old)) (D.image disk.new)) }
+    requires offset { (b : List ℕ) → GivesBytes D.told disk.old b → offset ≤ length b }
+    requires fixed { Within (GivesBytes D.told disk.old) (D.image disk.old) }
+    ensures closed { OnOk result (Within (IsClosed offset (GivesBytes D.told disk.old)) (D.image disk.new)) }
     ensures tells { TellsAlike (D.told disk.old) (D.told disk.new) }
     ensures any_moment { LeavesOnly D.time D.image_since disk.old disk.new (IsCutBack offset (D.image disk.old)) }
     ensures cause { HasCause (D.fault_count disk.old) (D.fault_count disk.new) result }

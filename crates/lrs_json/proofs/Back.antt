@@ -46,3 +46,12 @@ back = ind-Tree IsBack MemberIsBack (λ x y is. subst (λ z. IsBack (roll-Tree z
 -- a tree is told by what is seen of it
 pub same_tree : (t u : Tree) → view t ≡ view u → t ≡ u
 same_tree t u e = sym (back t) ∙ ap tree_of e ∙ back u
+
+pub same_trees : (ts us : List Tree) → elements_of (map view ts) ≡ elements_of (map view us) → ts ≡ us
+same_trees [] [] e = refl
+same_trees [] (u ∷ us) e = absurd (cc e)
+same_trees (t ∷ ts) [] e = absurd (cc e)
+same_trees (t ∷ ts) (u ∷ us) e =
+    let first : view t ≡ view u = cc e in
+    let rest : elements_of (map view ts) ≡ elements_of (map view us) = cc e in
+    cc (same_tree t u first, same_trees ts us rest)

@@ -7,3 +7,5 @@ pub mod Back
 pub mod Sets
 pub mod Behind
 pub mod Steps
+pub mod Lists
+pub mod SmallBytes

@@ -16,7 +16,7 @@ Names = BTreeSet (Bor (List ℕ))
 abbrev pub has_name : List ℕ → Names → Bool
 has_name k names = contains_by (λ n. slice_cmp nat_cmp k n.now) names
 
-cond_or : (b c : Bool) → cond b true c ≡ (b || c)
+pub cond_or : (b c : Bool) → cond b true c ≡ (b || c)
 cond_or true c = refl
 cond_or false c = refl
 

@@ -11,7 +11,7 @@ use Rattle.lrs_json.specs.declared.tree.Tree.{Tree}
 use Rattle.lrs_json.specs.declared.tree.Member.{Member}
 use Rattle.lrs_json.proofs.Behind.{none_behind, some_behind}
 
-later_on : (i : ℕ) → nat_lt 0 (i + 1) ≡ true
+pub later_on : (i : ℕ) → nat_lt 0 (i + 1) ≡ true
 later_on i = grind (arith, common_steps)
 
 next_item : (ts : List Tree) (i : ℕ) (t : Tree) (later : Bool) → i < length ts → t ≡ get_or ts i t → list_text later (drop i ts) ≡ (comma_if later ++ written_tree t) ++ list_text (nat_lt 0 (i + 1)) (drop (i + 1) ts)

@@ -71,7 +71,7 @@ impl<T> Items<T> {
         self.items.is_empty()
     }
 
-    /// The item at a place, from 0.
+    /// The item at an index, from 0.
     pub fn get(&self, at: usize) -> Option<&T>
         ensures value { option_copied result ≡ slice_get self.now at }
         ensures within { OnSome result (at < length self.now) }

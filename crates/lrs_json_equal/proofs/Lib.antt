@@ -1,2 +1,2 @@
-mod SameValues
+pub mod SameValues
 mod Indices

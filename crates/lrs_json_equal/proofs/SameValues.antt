@@ -17,7 +17,7 @@ use Rattle.lrs_json.specs.Names.{is_among}
 use Rattle.lrs_json.specs.Fits.{Fits, FitElements, FitMembers}
 use Rattle.lrs_json_equal.specs.SameValue.{same, same_elements, same_members, are_named}
 
-is_equal : (o : Ordering) → is_eq o ≡ true → o ≡ Equal
+pub is_equal : (o : Ordering) → is_eq o ≡ true → o ≡ Equal
 is_equal Less e = absurd (true≢false (sym e))
 is_equal Equal e = refl
 is_equal Greater e = absurd (true≢false (sym e))
@@ -133,7 +133,7 @@ same_found_at : (t : Bool) (j i : Json) (rest o : Option Json) → (if t then So
 same_found_at true j i rest o e f g = subst (λ z. option_map_or (same z) o false ≡ true) (some_same j i e) (f refl)
 same_found_at false j i rest o e f g = g e
 
-name_is : (n k : List ℕ) → bytes_eq n k ≡ true → n ≡ k
+pub name_is : (n k : List ℕ) → bytes_eq n k ≡ true → n ≡ k
 name_is n k e = (bytes_eq-Decides n k).0 e
 
 same_found : (ms ns : Members) (k : List ℕ) (i : Json) → same_members ms ns ≡ true → find_member k ms ≡ Some i → option_map_or (same i) (find_member k ns) false ≡ true
@@ -304,7 +304,7 @@ mutual
 
 -- ---- lengths
 
-absurd_or : (b c : Bool) → false ≡ c → false ≡ (b && c)
+pub absurd_or : (b c : Bool) → false ≡ c → false ≡ (b && c)
 absurd_or true c e = e
 absurd_or false c e = refl
 

@@ -7,16 +7,14 @@ use Rattle.lrs_decimal.proofs.NumberLemmas.{begins_number, number_again}
 use Rattle.lrs_json.specs.Json.{Json, null, boolean, number, string, array, object, Elements, no_elements, element, Members, no_members, member}
 use Rattle.lrs_json.specs.Spellable.{IsSpellable, AreSpellableElements, AreSpellableMembers}
 use Rattle.lrs_json.specs.Written.{comma_if, elements_text, escaped, members_text, quoted, written}
-use Rattle.lrs_json_reader.specs.Grammar.{Value}
 use Rattle.lrs_json_reader.specs.Located as Located
-use Rattle.lrs_json_reader.specs.Located.{plain, plain_elements, plain_members}
 use Rattle.lrs_json_reader.specs.Steps.{Opens}
 use Rattle.lrs_json_reader.proofs.Ends.{Value-Opens, digit_not}
 use Rattle.lrs_json_reader.proofs.Escapes.{same_quoted}
-use Rattle.lrs_json_reader.proofs.FirstBytes.{only_null, only_true, only_false, only_string, only_array, only_object, starts_at}
+use Rattle.lrs_json_reader.proofs.FirstBytes.{begins_array, begins_object, begins_string, first_is, kind, only_null, only_true, only_false}
 use Rattle.lrs_json_reader.proofs.Rereads.{elements_Ends, members_Ends, tail_same}
 use Rattle.lrs_json_reader.proofs.Values.{Starts, starts}
-use Rattle.lrs_json_reader.proofs.WrittenLemmas.{locate, plain-locate, written-Value}
+use Rattle.lrs_json_reader.proofs.WrittenLemmas.{locate, written-Value}
 
 pub first_same : (a b : ℕ) (xs ys : List ℕ) → a ∷ xs ≡ b ∷ ys → a ≡ b
 first_same a b xs ys e = cc e
@@ -30,13 +28,6 @@ not_first close (b ∷ bs) more opens e = opens.1 (first_same b close bs more e)
 -- no value begins with a closing bracket
 no_bracket : (j : Json) (more rest : List ℕ) → IsSpellable j → 93 ∷ more ≡ written j ++ rest → ⊥
 no_bracket j more rest ok e = not_first 93 (written j ++ rest) more (Value-Opens (locate j rest) (written j ++ rest) rest (written-Value j rest ok)) (sym e)
-
--- the other value begins with the same byte
-first_is : (k : Json) (bytes more rest : List ℕ) (b : ℕ) → IsSpellable k → bytes ≡ b ∷ more → bytes ≡ written k ++ rest → Starts (locate k rest) b
-first_is k bytes more rest b ok is e = starts_at (locate k rest) bytes more rest b is (subst (λ (t : List ℕ). Value (locate k rest) t rest) (sym e) (written-Value k rest ok))
-
-kind : (k : Json) (rest : List ℕ) (p : Located.Located) → locate k rest ≡ p → k ≡ plain p
-kind k rest p is = sym (plain-locate k rest) ∙ ap plain is
 
 number_kind : (k : Json) (rest : List ℕ) (b : ℕ) → IsTrue (begins_number b) → Starts (locate k rest) b → (c : List ℕ) × (k ≡ number c)
 number_kind null rest b d s = absurd (digit_not b 110 d refl s)
@@ -89,21 +80,21 @@ mutual
       let same = same_number a other.0 r s f ok x y (e ∙ ap (λ (i : Json). written i ++ s) other.1) in
       (ap number same.0 ∙ sym other.1, same.1)
   alike (string a) k r s f g x y e =
-      let other = only_string (locate k s) (first_is k (quoted a ++ r) ((flat_map escaped a ++ 34 ∷ []) ++ r) s 34 g refl e) in
-      let is : k ≡ string other.0 = kind k s (Located.string other.0) other.1 in
+      let other = begins_string k s (first_is k (quoted a ++ r) ((flat_map escaped a ++ 34 ∷ []) ++ r) s 34 g refl e) in
+      let is : k ≡ string other.0 = other.1 in
       let same = same_quoted a other.0 r s (e ∙ ap (λ (i : Json). written i ++ s) is) in
       (ap string same.0 ∙ sym is, same.1)
   alike (array js) k r s f g x y e =
-      let other = only_array (locate k s) (first_is k (written (array js) ++ r) (elements_text false js ++ r) s 91 g refl e) in
-      let ks : Elements = plain_elements other.0 in
-      let is : k ≡ array ks = kind k s (Located.array other.0) other.1 in
+      let other = begins_array k s (first_is k (written (array js) ++ r) (elements_text false js ++ r) s 91 g refl e) in
+      let ks : Elements = other.0 in
+      let is : k ≡ array ks = other.1 in
       let ok : AreSpellableElements ks = subst IsSpellable is g in
       let same = alike_elements js ks false r s f ok (tail_same 91 (elements_text false js ++ r) (elements_text false ks ++ s) (e ∙ ap (λ (i : Json). written i ++ s) is)) in
       (ap array same.0 ∙ sym is, same.1)
   alike (object ms) k r s f g x y e =
-      let other = only_object (locate k s) (first_is k (written (object ms) ++ r) (members_text false ms ++ r) s 123 g refl e) in
-      let ns : Members = plain_members other.0 in
-      let is : k ≡ object ns = kind k s (Located.object other.0) other.1 in
+      let other = begins_object k s (first_is k (written (object ms) ++ r) (members_text false ms ++ r) s 123 g refl e) in
+      let ns : Members = other.0 in
+      let is : k ≡ object ns = other.1 in
       let ok : AreSpellableMembers ns = subst IsSpellable is g in
       let same = alike_members ms ns false r s f ok (tail_same 123 (members_text false ms ++ r) (members_text false ns ++ s) (e ∙ ap (λ (i : Json). written i ++ s) is)) in
       (ap object same.0 ∙ sym is, same.1)

@@ -36,7 +36,7 @@ Paired-Ends (member left k p ms) bs rest l = Spaces-Ends bs l.0 44 refl l.6
 pub digit_not : (b c : ℕ) → IsTrue (begins_number b) → begins_number c ≡ false → b ≢ c
 digit_not b c d f e = true≢false (sym d ∙ ap begins_number e ∙ f)
 
-starts_not_93 : (p : Located) (b : ℕ) → Starts p b → b ≢ 93
+pub starts_not_93 : (p : Located) (b : ℕ) → Starts p b → b ≢ 93
 starts_not_93 null b s = λ e. omega arith
 starts_not_93 (boolean true) b s = λ e. omega arith
 starts_not_93 (boolean false) b s = λ e. omega arith

@@ -36,7 +36,7 @@ unit_again b r l =
     let sum : 0 * 4096 + 0 * 256 + b / 16 * 16 + b % 16 ≡ b = omega arith in
     rw (zero, zero, high, low, sum) refl
 
-control_escaped : (b : ℕ) → is_short b ≡ false → nat_lt b 32 ≡ true → escaped b ≡ 92 ∷ 117 ∷ 48 ∷ 48 ∷ hex_digit_of (b / 16) ∷ hex_digit_of (b % 16) ∷ []
+pub control_escaped : (b : ℕ) → is_short b ≡ false → nat_lt b 32 ≡ true → escaped b ≡ 92 ∷ 117 ∷ 48 ∷ 48 ∷ hex_digit_of (b / 16) ∷ hex_digit_of (b % 16) ∷ []
 unfolding escaped
 control_escaped b s n = grind (arith, common_steps)
 

@@ -1,8 +1,12 @@
 -- The first byte of a value tells its kind.
-use Rattle.std.proofs.Common.{◌≡◌, ◌≢◌, ℕ, List, ◌∷◌, true, false, refl, sym, subst, true≢false, arith}
-use Rattle.lrs_json_reader.specs.Located.{Located, null, boolean, number, string, array, object, Elements, Members}
+use Rattle.std.proofs.Common.{◌≡◌, ◌≢◌, ℕ, List, ◌∷◌, ◌++◌, true, false, refl, sym, ap, subst, ◌∙◌, true≢false, arith}
+use Rattle.lrs_json.specs.Json as Json
+use Rattle.lrs_json.specs.Spellable.{IsSpellable}
+use Rattle.lrs_json.specs.Written.{written}
+use Rattle.lrs_json_reader.specs.Located.{Located, null, boolean, number, string, array, object, Elements, Members, plain, plain_elements, plain_members}
 use Rattle.lrs_json_reader.specs.Grammar.{Value}
 use Rattle.lrs_json_reader.proofs.Values.{Starts, starts}
+use Rattle.lrs_json_reader.proofs.WrittenLemmas.{locate, plain-locate, written-Value}
 
 pub starts_at : (x : Located) (old more rest : List ℕ) (b : ℕ) → old ≡ b ∷ more → Value x old rest → Starts x b
 starts_at x old more rest b e v = let s = starts x old rest v in let same : s.0 ≡ b = cc (e, s.2) in subst (λ z. Starts x z) same s.3
@@ -69,3 +73,20 @@ only_number (number left x) b s n t f q l o = ((left, x), refl)
 only_number (string x) b s n t f q l o = absurd (q s)
 only_number (array js) b s n t f q l o = absurd (l s)
 only_number (object ms) b s n t f q l o = absurd (o s)
+
+-- ---- the same of a written form
+
+pub first_is : (j : Json.Json) (bytes more rest : List ℕ) (b : ℕ) → IsSpellable j → bytes ≡ b ∷ more → bytes ≡ written j ++ rest → Starts (locate j rest) b
+first_is j bytes more rest b ok is e = starts_at (locate j rest) bytes more rest b is (subst (λ (t : List ℕ). Value (locate j rest) t rest) (sym e) (written-Value j rest ok))
+
+pub kind : (j : Json.Json) (rest : List ℕ) (p : Located) → locate j rest ≡ p → j ≡ plain p
+kind j rest p is = sym (plain-locate j rest) ∙ ap plain is
+
+pub begins_string : (j : Json.Json) (rest : List ℕ) → Starts (locate j rest) 34 → (s : List ℕ) × (j ≡ Json.string s)
+begins_string j rest s = let o = only_string (locate j rest) s in (o.0, kind j rest (string o.0) o.1)
+
+pub begins_array : (j : Json.Json) (rest : List ℕ) → Starts (locate j rest) 91 → (js : Json.Elements) × (j ≡ Json.array js)
+begins_array j rest s = let o = only_array (locate j rest) s in (plain_elements o.0, kind j rest (array o.0) o.1)
+
+pub begins_object : (j : Json.Json) (rest : List ℕ) → Starts (locate j rest) 123 → (ms : Json.Members) × (j ≡ Json.object ms)
+begins_object j rest s = let o = only_object (locate j rest) s in (plain_members o.0, kind j rest (object o.0) o.1)

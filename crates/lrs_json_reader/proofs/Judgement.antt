@@ -13,6 +13,7 @@ use Rattle.lrs_json_reader.specs.declared.reading.ReadRefused.TheVariants.{TooDe
 use Rattle.lrs_json_reader.specs.declared.reader.Flaws.{Flaws}
 use Rattle.lrs_json.specs.declared.tree.Tree.{Tree}
 use Rattle.std.proofs.lemmas.Result.{MatchResult-weaker}
+use Rattle.std.proofs.lemmas.Option.{same_Some}
 use Rattle.lrs_json.specs.Written.{written}
 use Rattle.lrs_json.specs.Fits.{IsReadable}
 use Rattle.lrs_json.proofs.Back.{same_tree}
@@ -71,21 +72,18 @@ no_text limit bytes f none =
 none_some : (x : ℕ) → ◌≡◌ {A = Option ℕ} None (Some x) → ⊥
 none_some x e = cc e
 
-some_same : (x y : ℕ) → Some x ≡ Some y → x ≡ y
-some_same x y e = cc e
-
 earlier_some : (a : ℕ) (b : Option ℕ) → earlier (Some a) b ≡ None → ⊥
 earlier_some a None e = none_some a (sym e)
 earlier_some a (Some b) e = none_some (max a b) (sym e)
 
 -- no earliest offset, no offset
-none_empty : (flaws : List ℕ) → earliest flaws ≡ None → flaws ≡ []
+none_empty : (lefts : List ℕ) → earliest lefts ≡ None → lefts ≡ []
 none_empty [] e = refl
-none_empty (left ∷ flaws) e = absurd (earlier_some left (earliest flaws) e)
+none_empty (left ∷ lefts) e = absurd (earlier_some left (earliest lefts) e)
 
 -- no offset, and the earliest
-empty_some : (flaws : List ℕ) (left : ℕ) → flaws ≡ [] → earliest flaws ≡ Some left → ⊥
-empty_some flaws left e s = none_some left (sym (ap earliest e) ∙ s)
+empty_some : (lefts : List ℕ) (left : ℕ) → lefts ≡ [] → earliest lefts ≡ Some left → ⊥
+empty_some lefts left e s = none_some left (sym (ap earliest e) ∙ s)
 
 repeated_at : (offset a : ℕ) → ◌≡◌ {A = Answer} (Err (Repeated a)) (Err (Repeated offset)) → offset ≡ a
 repeated_at offset a e = cc e
@@ -104,7 +102,7 @@ module _ (limit : ℕ) (bytes : List ℕ) (p : Located) (f : is_too_deep limit b
             record {
               only = λ h. record { shallow = f; located = p; spelled = spelled; left = left; first = first; at = repeated_at offset (length bytes - left) h };
               always = λ c.
-                  let same : left ≡ c.left = some_same left c.left (sym first ∙ ap (λ z. earliest (repeated_names z)) (sym (only c.located c.spelled)) ∙ c.first) in
+                  let same : left ≡ c.left = same_Some left c.left (sym first ∙ ap (λ z. earliest (repeated_names z)) (sym (only c.located c.spelled)) ∙ c.first) in
                   inl (ap (λ z. Err (Repeated (length bytes - z))) same ∙ ap (λ z. Err (Repeated z)) (sym c.at));
             };
         number_range = λ offset. other _ _ _ (λ h. cc h) (λ c. empty_some (repeated_names p) left (ap repeated_names (sym (only c.located c.spelled)) ∙ c.distinct) first);
@@ -122,7 +120,7 @@ module _ (limit : ℕ) (bytes : List ℕ) (p : Located) (f : is_too_deep limit b
             record {
               only = λ h. record { shallow = f; located = p; spelled = spelled; distinct = none_empty (repeated_names p) none; left = left; first = first; at = out_at offset (length bytes - left) h };
               always = λ c.
-                  let same : left ≡ c.left = some_same left c.left (sym first ∙ ap (λ z. earliest (out_of_range_numbers z)) (sym (only c.located c.spelled)) ∙ c.first) in
+                  let same : left ≡ c.left = same_Some left c.left (sym first ∙ ap (λ z. earliest (out_of_range_numbers z)) (sym (only c.located c.spelled)) ∙ c.first) in
                   inl (ap (λ z. Err (NumberRange (length bytes - z))) same ∙ ap (λ z. Err (NumberRange z)) (sym c.at));
             };
         found = tt;

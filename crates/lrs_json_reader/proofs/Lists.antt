@@ -6,7 +6,7 @@ use Rattle.lrs_json.specs.View.{view, elements_of}
 use Rattle.lrs_json_reader.specs.Located.{Located, array, plain, plain_elements, Elements, no_elements, element}
 use Rattle.lrs_json_reader.specs.Grammar.{Value, Listed}
 use Rattle.lrs_json_reader.specs.Steps.{StepsToNext}
-use Rattle.lrs_json_reader.specs.Reading.{noted, Misses, ReadsValue, has_some}
+use Rattle.lrs_json_reader.specs.Reading.{noted, Misses, ReadsValue, has_items}
 use Rattle.lrs_json_reader.specs.declared.cursor.Stop.{Stop}
 use Rattle.lrs_json_reader.specs.declared.cursor.Stop.TheVariants.{Memory}
 use Rattle.lrs_json_reader.specs.declared.reader.Reader.{Reader}
@@ -23,14 +23,14 @@ pub record ListSoFar (ts : List Tree) (start here : Reader) : Type 0 where
   pub sees : map view ts ≡ map plain ps
   pub notes : here.flaws ≡ noted_all start.flaws ps
   -- what completes the list completes it from its start
-  pub sound : (more : Elements) (rest : List ℕ) → Listed (has_some ts) more here.cursor rest → Value (array (before_elements ps more)) start.cursor rest
+  pub sound : (more : Elements) (rest : List ℕ) → Listed (has_items ts) more here.cursor rest → Value (array (before_elements ps more)) start.cursor rest
   -- each list from the start goes on so
-  pub complete : (all : Elements) (rest : List ℕ) → Value (array all) start.cursor rest → (more : Elements) × (all ≡ before_elements ps more) × Listed (has_some ts) more here.cursor rest
+  pub complete : (all : Elements) (rest : List ℕ) → Value (array all) start.cursor rest → (more : Elements) × (all ≡ before_elements ps more) × Listed (has_items ts) more here.cursor rest
   pub shorter : length here.cursor < length start.cursor
 
-pub has_some-push : {X : Type 0} (xs : List X) (x : X) → has_some (xs ++ x ∷ []) ≡ true
-has_some-push [] x = refl
-has_some-push (y ∷ xs) x = refl
+pub has_items-push : {X : Type 0} (xs : List X) (x : X) → has_items (xs ++ x ∷ []) ≡ true
+has_items-push [] x = refl
+has_items-push (y ∷ xs) x = refl
 
 pub list_start : (start here : Reader) (rest : List ℕ) → start.cursor ≡ 91 ∷ rest → here.cursor ≡ drop 1 start.cursor → here.flaws ≡ start.flaws → ListSoFar [] start here
 list_start start here rest e d notes =
@@ -63,11 +63,11 @@ none_comes : (later : Bool) (more : Elements) (here s rest : List ℕ) (y : Stop
 none_comes later no_elements here s rest y go l = go.all_end rest l
 none_comes later (element p left) here s rest y go l = go.all_more l.0 l.1 l.3 l.4 (Value-Opens p l.1 l.2 l.5)
 
-pub list_next : (ts new : List Tree) (t : Tree) (start here mid next : Reader) → new ≡ ts ++ t ∷ [] → mid.flaws ≡ here.flaws → ListSoFar ts start here → StepsToNext (has_some ts) 93 here.cursor (Ok true) mid.cursor → ReadsValue mid (Ok t) next
+pub list_next : (ts new : List Tree) (t : Tree) (start here mid next : Reader) → new ≡ ts ++ t ∷ [] → mid.flaws ≡ here.flaws → ListSoFar ts start here → StepsToNext (has_items ts) 93 here.cursor (Ok true) mid.cursor → ReadsValue mid (Ok t) next
     → ListSoFar new start next
 list_next ts new t start here mid next is kept so go found =
     let x = found.it in
-    let later : has_some new ≡ true = ap has_some is ∙ has_some-push ts t in
+    let later : has_items new ≡ true = ap has_items is ∙ has_items-push ts t in
     record {
       ps = so.ps ++ x ∷ [];
       sees = ap (map view) is ∙ map-append view ts (t ∷ []) ∙ ap (λ z. z ++ view t ∷ []) so.sees ∙ ap (λ z. map plain so.ps ++ z ∷ []) found.sees ∙ sym (map-append plain so.ps (x ∷ []));
@@ -78,7 +78,7 @@ list_next ts new t start here mid next is kept so go found =
           subst (λ z. Value (array z) start.cursor rest) (sym (elements-push so.ps x more)) (so.sound (element x more) rest (comes.0, mid.cursor, next.cursor, comes.1, comes.2, found.here, tail));
       complete = λ all rest v.
           let m = so.complete all rest v in
-          let i = item_comes (has_some ts) m.0 here.cursor mid.cursor rest go m.2 in
+          let i = item_comes (has_items ts) m.0 here.cursor mid.cursor rest go m.2 in
           let r = found.only i.0 i.2 i.4 (Listed-Ends i.1 i.2 rest i.5) in
           let tail : Listed true i.1 next.cursor rest = subst (λ z. Listed true i.1 z rest) (sym r.1) i.5 in
           (i.1, m.1 ∙ ap (before_elements so.ps) (i.3 ∙ ap (λ z. element z i.1) r.0) ∙ sym (elements-push so.ps x i.1), subst (λ z. Listed z i.1 next.cursor rest) (sym later) tail);
@@ -91,25 +91,25 @@ list_at x start rest0 rest e v =
     let o = only_array x (starts_at x start rest0 rest 91 e v) in
     (o.0, o.1, subst (λ z. Value z start rest) o.1 v)
 
-pub list_goes_fault : (ts : List Tree) (start here : Reader) (s rest0 : List ℕ) (y : Stop) → start.cursor ≡ 91 ∷ rest0 → ListSoFar ts start here → StepsToNext (has_some ts) 93 here.cursor (Err y) s → Misses Value start y
+pub list_goes_fault : (ts : List Tree) (start here : Reader) (s rest0 : List ℕ) (y : Stop) → start.cursor ≡ 91 ∷ rest0 → ListSoFar ts start here → StepsToNext (has_items ts) 93 here.cursor (Err y) s → Misses Value start y
 list_goes_fault ts start here s rest0 y e so go = λ x rest v ends.
     let l = list_at x start.cursor rest0 rest e v in
     let m = so.complete l.0 rest l.2 in
-    none_comes (has_some ts) m.0 here.cursor s rest y go m.2
+    none_comes (has_items ts) m.0 here.cursor s rest y go m.2
 
-pub list_item_fault : (ts : List Tree) (start here mid : Reader) (rest0 : List ℕ) (y : Stop) → start.cursor ≡ 91 ∷ rest0 → ListSoFar ts start here → StepsToNext (has_some ts) 93 here.cursor (Ok true) mid.cursor → Misses Value mid y
+pub list_item_fault : (ts : List Tree) (start here mid : Reader) (rest0 : List ℕ) (y : Stop) → start.cursor ≡ 91 ∷ rest0 → ListSoFar ts start here → StepsToNext (has_items ts) 93 here.cursor (Ok true) mid.cursor → Misses Value mid y
     → Misses Value start y
 list_item_fault ts start here mid rest0 y e so go misses = λ x rest v ends.
     let l = list_at x start.cursor rest0 rest e v in
     let m = so.complete l.0 rest l.2 in
-    let i = item_comes (has_some ts) m.0 here.cursor mid.cursor rest go m.2 in
+    let i = item_comes (has_items ts) m.0 here.cursor mid.cursor rest go m.2 in
     misses i.0 i.2 i.4 (Listed-Ends i.1 i.2 rest i.5)
 
 elements_plain : (ps : List Located) → plain_elements (before_elements ps no_elements) ≡ elements_of (map plain ps)
 elements_plain [] = refl
 elements_plain (p ∷ ps) = ap (Json.element (plain p)) (elements_plain ps)
 
-pub list_done : (ts : List Tree) (start here new : Reader) (rest0 : List ℕ) → start.cursor ≡ 91 ∷ rest0 → new.flaws ≡ here.flaws → ListSoFar ts start here → StepsToNext (has_some ts) 93 here.cursor (Ok false) new.cursor
+pub list_done : (ts : List Tree) (start here new : Reader) (rest0 : List ℕ) → start.cursor ≡ 91 ∷ rest0 → new.flaws ≡ here.flaws → ListSoFar ts start here → StepsToNext (has_items ts) 93 here.cursor (Ok false) new.cursor
     → ReadsValue start (Ok (Many ts)) new
 list_done ts start here new rest0 e kept so go =
     let is = before_elements so.ps no_elements in
@@ -122,6 +122,6 @@ list_done ts start here new rest0 e kept so go =
       only = λ x rest v ends.
           let l = list_at x start.cursor rest0 rest e v in
           let m = so.complete l.0 rest l.2 in
-          let d = end_comes (has_some ts) m.0 here.cursor new.cursor rest go m.2 in
+          let d = end_comes (has_items ts) m.0 here.cursor new.cursor rest go m.2 in
           (l.1 ∙ ap array (m.1 ∙ ap (before_elements so.ps) d.0), d.1);
     }

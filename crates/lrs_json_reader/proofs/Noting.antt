@@ -83,7 +83,7 @@ out_of_range_entries : (flaws : Flaws) (ms : List Entry) → (noted_entries flaw
 out_of_range_entries flaws [] = refl
 out_of_range_entries flaws (m ∷ ms) = out_of_range_entries (noted_entry flaws m) ms ∙ both flaws.out_of_range (out_of_range_numbers m.value) (out_of_range_in_members (before_members ms no_members))
 
--- a name's own locate may come last
+-- a name's own offset may come last
 last_first : (x o r a v rest : Option ℕ) → earlier x r ≡ earlier (earlier a v) rest → earlier x (earlier o r) ≡ earlier a (earlier o (earlier v rest))
 last_first x o r a v rest e =
     ap (earlier x) (earlier-comm o r) ∙ sym (earlier-assoc x r o) ∙ ap (λ z. earlier z o) (e ∙ earlier-assoc a v rest) ∙ earlier-assoc a (earlier v rest) o ∙ ap (earlier a) (earlier-comm (earlier v rest) o)

@@ -8,7 +8,7 @@ use Rattle.lrs_json_reader.specs.Located.{Located, object, plain, plain_members,
 use Rattle.lrs_json_reader.specs.Flaws.{earlier, earliest}
 use Rattle.lrs_json_reader.specs.Grammar.{is_space, Spaces, Quoted, Value, Paired}
 use Rattle.lrs_json_reader.specs.Steps.{StepsToNext}
-use Rattle.lrs_json_reader.specs.Reading.{noted, Entry, plain_entry, noted_entry, Pair, Misses, ReadsValue, ReadsMember, repeated_among, has_some}
+use Rattle.lrs_json_reader.specs.Reading.{noted, Entry, plain_entry, noted_entry, Pair, Misses, ReadsValue, ReadsMember, repeated_among, has_items}
 use Rattle.lrs_json_reader.specs.declared.cursor.Stop.{Stop}
 use Rattle.lrs_json_reader.specs.declared.cursor.Stop.TheVariants.{Memory}
 use Rattle.lrs_json_reader.specs.declared.reader.Flaws.{Flaws}
@@ -21,7 +21,7 @@ use Rattle.lrs_json_reader.proofs.StepLemmas.{Spaces-length, behind-length}
 use Rattle.lrs_json_reader.proofs.FirstBytes.{starts_at, only_object}
 use Rattle.lrs_json_reader.proofs.Ends.{Paired-Ends, Quoted-Opens}
 use Rattle.lrs_json_reader.proofs.Noting.{flaws_same, before_members, members-push, noted_entries, noted_entries-push, noted_entries-object}
-use Rattle.lrs_json_reader.proofs.Lists.{has_some-push}
+use Rattle.lrs_json_reader.proofs.Lists.{has_items-push}
 use Rattle.lrs_json.proofs.Views.{view-Object}
 
 pub record ObjectSoFar (ts : List Member) (lefts : List ℕ) (start here : Reader) : Type 0 where
@@ -29,8 +29,8 @@ pub record ObjectSoFar (ts : List Member) (lefts : List ℕ) (start here : Reade
   pub sees : map member_view ts ≡ map plain_entry ms
   pub at : lefts ≡ map (λ m. m.left) ms
   pub notes : here.flaws ≡ noted_entries start.flaws ms
-  pub sound : (more : Members) (rest : List ℕ) → Paired (has_some ts) more here.cursor rest → Value (object (before_members ms more)) start.cursor rest
-  pub complete : (all : Members) (rest : List ℕ) → Value (object all) start.cursor rest → (more : Members) × (all ≡ before_members ms more) × Paired (has_some ts) more here.cursor rest
+  pub sound : (more : Members) (rest : List ℕ) → Paired (has_items ts) more here.cursor rest → Value (object (before_members ms more)) start.cursor rest
+  pub complete : (all : Members) (rest : List ℕ) → Value (object all) start.cursor rest → (more : Members) × (all ≡ before_members ms more) × Paired (has_items ts) more here.cursor rest
   pub shorter : length here.cursor < length start.cursor
 
 pub object_start : (start here : Reader) (rest : List ℕ) → start.cursor ≡ 123 ∷ rest → here.cursor ≡ drop 1 start.cursor → here.flaws ≡ start.flaws → ObjectSoFar [] [] start here
@@ -63,10 +63,10 @@ none_comes later no_members here s rest y go l = go.all_end rest l
 none_comes later (member left k p more) here s rest y go l = go.all_more l.0 l.1 l.6 l.7 (Quoted-Opens k l.1 l.2 l.8)
 
 pub object_next : (ts new : List Member) (lefts afters : List ℕ) (left : ℕ) (t : Member) (start here mid next : Reader) → new ≡ ts ++ t ∷ [] → afters ≡ lefts ++ left ∷ [] → left ≡ length mid.cursor → mid.flaws ≡ here.flaws
-    → ObjectSoFar ts lefts start here → StepsToNext (has_some ts) 125 here.cursor (Ok true) mid.cursor → ReadsMember mid (Ok t) next → ObjectSoFar new afters start next
+    → ObjectSoFar ts lefts start here → StepsToNext (has_items ts) 125 here.cursor (Ok true) mid.cursor → ReadsMember mid (Ok t) next → ObjectSoFar new afters start next
 object_next ts new lefts afters left t start here mid next is flaws_are left_is kept so go found =
     let x = found.it in
-    let later : has_some new ≡ true = ap has_some is ∙ has_some-push ts t in
+    let later : has_items new ≡ true = ap has_items is ∙ has_items-push ts t in
     let p = found.here in
     record {
       ms = so.ms ++ x ∷ [];
@@ -80,7 +80,7 @@ object_next ts new lefts afters left t start here mid next is flaws_are left_is 
           (comes.0, mid.cursor, p.0, p.1, p.2, next.cursor, comes.1, comes.2, p.3, p.4, p.5, p.6, tail, p.7));
       complete = λ all rest v.
           let m = so.complete all rest v in
-          let i = member_comes (has_some ts) m.0 here.cursor mid.cursor rest go m.2 in
+          let i = member_comes (has_items ts) m.0 here.cursor mid.cursor rest go m.2 in
           let r = found.only i.0 i.2 i.4 (Paired-Ends i.1 i.2 rest i.5) in
           let tail : Paired true i.1 next.cursor rest = subst (λ z. Paired true i.1 z rest) (sym r.1) i.5 in
           (i.1, m.1 ∙ ap (before_members so.ms) (i.3 ∙ ap (λ z. member z.left z.name z.value i.1) r.0) ∙ sym (members-push so.ms x i.1), subst (λ z. Paired z i.1 next.cursor rest) (sym later) tail);
@@ -97,7 +97,7 @@ pub object_begun : (below : List ℕ) (start here : Reader) (rest : List ℕ) �
 object_begun below start here rest e d notes = record { own = []; on = sym (append-nil below); so_far = object_start start here rest e d notes }
 
 pub object_more : (ts new : List Member) (below stack pushed kept : List ℕ) (left : ℕ) (t : Member) (start here mid next : Reader) → new ≡ ts ++ t ∷ [] → pushed ≡ stack ++ left ∷ [] → kept ≡ pushed → left ≡ length mid.cursor
-    → mid.flaws ≡ here.flaws → ObjectHere ts below stack start here → StepsToNext (has_some ts) 125 here.cursor (Ok true) mid.cursor → ReadsMember mid (Ok t) next → ObjectHere new below kept start next
+    → mid.flaws ≡ here.flaws → ObjectHere ts below stack start here → StepsToNext (has_items ts) 125 here.cursor (Ok true) mid.cursor → ReadsMember mid (Ok t) next → ObjectHere new below kept start next
 object_more ts new below stack pushed kept left t start here mid next is on same left_is flaws so go found =
     record {
       own = so.own ++ left ∷ [];
@@ -114,19 +114,19 @@ object_at x start rest0 rest e v =
     let o = only_object x (starts_at x start rest0 rest 123 e v) in
     (o.0, o.1, subst (λ z. Value z start rest) o.1 v)
 
-pub object_goes_fault : (ts : List Member) (lefts : List ℕ) (start here : Reader) (s rest0 : List ℕ) (y : Stop) → start.cursor ≡ 123 ∷ rest0 → ObjectSoFar ts lefts start here → StepsToNext (has_some ts) 125 here.cursor (Err y) s
+pub object_goes_fault : (ts : List Member) (lefts : List ℕ) (start here : Reader) (s rest0 : List ℕ) (y : Stop) → start.cursor ≡ 123 ∷ rest0 → ObjectSoFar ts lefts start here → StepsToNext (has_items ts) 125 here.cursor (Err y) s
     → Misses Value start y
 object_goes_fault ts lefts start here s rest0 y e so go = λ x rest v ends.
     let l = object_at x start.cursor rest0 rest e v in
     let m = so.complete l.0 rest l.2 in
-    none_comes (has_some ts) m.0 here.cursor s rest y go m.2
+    none_comes (has_items ts) m.0 here.cursor s rest y go m.2
 
 pub object_member_fault : (ts : List Member) (lefts : List ℕ) (start here mid : Reader) (rest0 : List ℕ) (y : Stop) → start.cursor ≡ 123 ∷ rest0 → ObjectSoFar ts lefts start here
-    → StepsToNext (has_some ts) 125 here.cursor (Ok true) mid.cursor → Misses Pair mid y → Misses Value start y
+    → StepsToNext (has_items ts) 125 here.cursor (Ok true) mid.cursor → Misses Pair mid y → Misses Value start y
 object_member_fault ts lefts start here mid rest0 y e so go misses = λ x rest v ends.
     let l = object_at x start.cursor rest0 rest e v in
     let m = so.complete l.0 rest l.2 in
-    let i = member_comes (has_some ts) m.0 here.cursor mid.cursor rest go m.2 in
+    let i = member_comes (has_items ts) m.0 here.cursor mid.cursor rest go m.2 in
     misses i.0 i.2 i.4 (Paired-Ends i.1 i.2 rest i.5)
 
 members_plain : (ms : List Entry) → plain_members (before_members ms no_members) ≡ members_of (map plain_entry ms)
@@ -144,7 +144,7 @@ names_entered (m ∷ ms) = ap (λ z. m.name ∷ z) (names_entered ms)
 -- where the repeated names among its own are noted last
 pub object_done : (ts : List Member) (lefts : List ℕ) (start here new : Reader) (rest0 : List ℕ) → start.cursor ≡ 123 ∷ rest0
     → new.flaws.repeated ≡ earlier here.flaws.repeated (earliest (repeated_among [] (map (λ t. (member_view t).0) ts) lefts)) → new.flaws.out_of_range ≡ here.flaws.out_of_range
-    → ObjectSoFar ts lefts start here → StepsToNext (has_some ts) 125 here.cursor (Ok false) new.cursor → ReadsValue start (Ok (Many ts)) new
+    → ObjectSoFar ts lefts start here → StepsToNext (has_items ts) 125 here.cursor (Ok false) new.cursor → ReadsValue start (Ok (Many ts)) new
 object_done ts lefts start here new rest0 e repeated out so go =
     let is = before_members so.ms no_members in
     let names : map (λ t. (member_view t).0) ts ≡ map (λ m. m.name) so.ms = names_seen ts ∙ ap (map (λ e. e.0)) so.sees ∙ names_entered so.ms in
@@ -160,7 +160,7 @@ object_done ts lefts start here new rest0 e repeated out so go =
       only = λ x rest v ends.
           let l = object_at x start.cursor rest0 rest e v in
           let m = so.complete l.0 rest l.2 in
-          let d = end_comes (has_some ts) m.0 here.cursor new.cursor rest go m.2 in
+          let d = end_comes (has_items ts) m.0 here.cursor new.cursor rest go m.2 in
           (l.1 ∙ ap object (m.1 ∙ ap (before_members so.ms) d.0), d.1);
     }
 

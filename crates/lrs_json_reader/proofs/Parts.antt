@@ -3,6 +3,7 @@ use Rattle.std.proofs.Common.{◌≡◌, ◌<◌, ℕ, zero, suc, Some, List, []
 use Rattle.std.proofs.lemmas.List.{append_cancel_left, take-append-drop}
 use Rattle.std.proofs.lemmas.Str.{IsUtf8-from_ascii}
 use Rattle.std.specs.Str.{IsAscii}
+use Rattle.std.proofs.lemmas.Option.{same_Some}
 use Rattle.lrs_decimal.specs.Numbers.{Each, IsNumber}
 use Rattle.lrs_decimal.proofs.NumberLemmas.{is_numeric, IsNumber-numeric}
 use Rattle.lrs_decimal.proofs.Runs.{drop_front, take_front}
@@ -34,12 +35,9 @@ number_utf8 s n = IsUtf8-from_ascii s (numeric_ascii s (IsNumber-numeric s n))
 pub number_found_at : (bs : List ℕ) (n : ℕ) (t rest : List ℕ) → IsNumber (take n bs) → t ≡ take n bs → rest ≡ drop n bs → (bs ≡ t ++ rest) × IsNumber t
 number_found_at bs n t rest num te re = (sym (take-append-drop n bs) ∙ rw (te, re) refl, rw te num)
 
-some_same : (x y : ℕ) → Some x ≡ Some y → x ≡ y
-some_same x y e = cc e
-
 -- the length of the number at the front tells it, and what follows it
 pub number_all_at : (bs : List ℕ) (n : ℕ) (s rest : List ℕ) → bs ≡ s ++ rest → Some n ≡ Some (length s) → (take n bs ≡ s) × (drop n bs ≡ rest)
-number_all_at bs n s rest is e = let len : n ≡ length s = some_same n (length s) e in rw (len, is) (take_front s rest, drop_front s rest)
+number_all_at bs n s rest is e = let len : n ≡ length s = same_Some n (length s) e in rw (len, is) (take_front s rest, drop_front s rest)
 
 -- what a `?` hands on is that memory ran out
 pub err_finds : {T : Type 0} {Q : Stop → Type 0} (r : Result T Stop) (P : T → Type 0) → IsErrAnd r Q → ((y : Stop) → Q y → y ≡ Memory) → Finds r P

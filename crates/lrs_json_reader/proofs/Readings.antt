@@ -6,7 +6,7 @@ use Rattle.lrs_json.specs.Json as Json
 use Rattle.lrs_json_reader.specs.Located.{Located, number, string, plain}
 use Rattle.lrs_json_reader.specs.Grammar.{Quoted, Value}
 use Rattle.lrs_json.specs.View.{view}
-use Rattle.lrs_json_reader.specs.Reading.{noted, Found, Misses, Reads, ReadsWord, ReadsString, ReadsNumber, ReadsValue, NumberAt}
+use Rattle.lrs_json_reader.specs.Reading.{noted, Found, Misses, FindsOrMisses, ReadsWord, ReadsString, ReadsNumber, ReadsValue, NumberAt}
 use Rattle.lrs_json_reader.specs.declared.cursor.Stop.{Stop}
 use Rattle.lrs_json_reader.specs.declared.reader.Flaws.{Flaws}
 use Rattle.lrs_json_reader.specs.declared.reader.Reader.{Reader}
@@ -18,7 +18,7 @@ pub widen : {T X Z Y : Type 0} (f : X → Z) (IsX : X → List ℕ → List ℕ 
     → ((x : X) (rest : List ℕ) → IsX x old.cursor rest → IsZ (f x) old.cursor rest)
     → ((z : Z) (rest : List ℕ) → IsZ z old.cursor rest → (x : X) × (z ≡ f x) × IsX x old.cursor rest)
     → ((x : X) → shownX x ≡ shownZ (f x)) → ((x : X) → noteX old.flaws x ≡ noteZ old.flaws (f x))
-    → Reads IsX shownX seen noteX old r new → Reads IsZ shownZ seen noteZ old r new
+    → FindsOrMisses IsX shownX seen noteX old r new → FindsOrMisses IsZ shownZ seen noteZ old r new
 widen f IsX IsZ shownX shownZ seen noteX noteZ old (Ok t) new to from shown note found =
     record {
       it = f found.it;
@@ -32,7 +32,7 @@ widen f IsX IsZ shownX shownZ seen noteX noteZ old (Err e) new to from shown not
 
 -- what a `?` hands on
 pub reads_err : {T X Y : Type 0} {Q : Stop → Type 0} (Is : X → List ℕ → List ℕ → Type 0) (shown : X → Y) (seen : T → Y) (note : Flaws → X → Flaws) (old : Reader) (r : Result T Stop) (new : Reader)
-    → IsErrAnd r Q → ((y : Stop) → Q y → Misses Is old y) → Reads Is shown seen note old r new
+    → IsErrAnd r Q → ((y : Stop) → Q y → Misses Is old y) → FindsOrMisses Is shown seen note old r new
 reads_err Is shown seen note old (Ok t) new q f = absurd q
 reads_err Is shown seen note old (Err y) new q f = f y q
 

@@ -1,8 +1,8 @@
 -- What was written is read back.
-use Rattle.std.proofs.Common.{◌≡◌, ◌≢◌, ◌<◌, ℕ, List, [], ◌∷◌, ◌++◌, Bool, true, false, not, length, drop, map, Result, Ok, Err, MatchBool, refl, sym, ap, ◌∙◌, subst, true≢false, arith, append_assoc}
+use Rattle.std.proofs.Common.{◌≡◌, ◌≢◌, ◌<◌, ℕ, List, [], ◌∷◌, ◌++◌, Bool, true, false, not, length, drop, map, Result, Ok, Err, MatchBool, refl, sym, ap, ◌∙◌, subst, arith, append_assoc}
 use Rattle.std.proofs.lemmas.List.{append-nil, map-append}
 use Rattle.lrs_decimal.specs.Numbers.{Ends}
-use Rattle.lrs_json.specs.Json.{Json, null, boolean, number, string, array, object, Elements, no_elements, element, Members, no_members, member}
+use Rattle.lrs_json.specs.Json.{Json, array, object, Elements, no_elements, element, Members, no_members, member}
 use Rattle.lrs_json.specs.View.{view, member_view, elements_of, members_of}
 use Rattle.lrs_json.specs.Spellable.{IsSpellable, AreSpellableElements, AreSpellableMembers}
 use Rattle.lrs_json.specs.Written.{quoted, written, written_tree, elements_text, members_text}
@@ -13,14 +13,13 @@ use Rattle.lrs_json.proofs.Views.{view-Number, view-List, view-Object}
 use Rattle.lrs_json_reader.specs.Located as Located
 use Rattle.lrs_json_reader.specs.Located.{plain}
 use Rattle.lrs_json_reader.specs.Grammar.{Quoted, Value}
-use Rattle.lrs_json_reader.specs.Steps.{Finds}
-use Rattle.lrs_json_reader.specs.Rereading.{Rereads, RereadsNumber, RereadsLeaf, RereadsValue, RereadsMember, NumeralAt, WrittenAt, NamedAt, before_elements, before_members, ElementsLeft, MembersLeft, NextItem, NextMember, GoesOn}
+use Rattle.lrs_json_reader.specs.Steps.{Finds, StepsOverCommaOr}
+use Rattle.lrs_json_reader.specs.Rereading.{Rereads, RereadsNumber, RereadsLeaf, RereadsValue, RereadsMember, NumeralAt, WrittenAt, NamedAt, before_elements, before_members, ElementsLeft, MembersLeft, RereadsNextItem, RereadsNextMember}
 use Rattle.lrs_json_reader.specs.declared.cursor.Stop.{Stop}
 use Rattle.lrs_json_reader.specs.declared.cursor.Stop.TheVariants.{Memory}
-use Rattle.lrs_json_reader.proofs.Values.{Starts}
-use Rattle.lrs_json_reader.proofs.FirstBytes.{starts_at, only_number}
+use Rattle.lrs_json_reader.proofs.FirstBytes.{begins_array, begins_object, first_is, starts_at, only_number}
 use Rattle.lrs_json_reader.proofs.Ends.{Value-Opens}
-use Rattle.lrs_json_reader.proofs.StepLemmas.{not_close}
+use Rattle.lrs_json_reader.proofs.StepLemmas.{not_close, over_this}
 use Rattle.lrs_json_reader.proofs.WrittenLemmas.{quoted-Quoted, locate, plain-locate, written-Value}
 
 -- ---- one kind of value that holds no others, said of all
@@ -47,32 +46,14 @@ pub leaf_again : (old new : List ℕ) (r : Result Tree Stop) → RereadsLeaf old
 leaf_again old new (Ok t) all = λ j rest w ends. let a = all (locate j rest) rest (written_at j old rest w) ends in (a.0 ∙ plain-locate j rest, a.1)
 leaf_again old new (Err y) all = λ j rest w ends. all (locate j rest) rest (written_at j old rest w) ends
 
-only_array : (j : Json) (rest : List ℕ) → Starts (locate j rest) 91 → (js : Elements) × (j ≡ array js)
-only_array null rest s = absurd (omega arith)
-only_array (boolean true) rest s = absurd (omega arith)
-only_array (boolean false) rest s = absurd (omega arith)
-only_array (number n) rest s = absurd (true≢false (sym s))
-only_array (string n) rest s = absurd (omega arith)
-only_array (array js) rest s = (js, refl)
-only_array (object ms) rest s = absurd (omega arith)
-
-only_object : (j : Json) (rest : List ℕ) → Starts (locate j rest) 123 → (ms : Members) × (j ≡ object ms)
-only_object null rest s = absurd (omega arith)
-only_object (boolean true) rest s = absurd (omega arith)
-only_object (boolean false) rest s = absurd (omega arith)
-only_object (number n) rest s = absurd (true≢false (sym s))
-only_object (string n) rest s = absurd (omega arith)
-only_object (array js) rest s = absurd (omega arith)
-only_object (object ms) rest s = (ms, refl)
-
 array_at : (j : Json) (start more rest : List ℕ) → start ≡ 91 ∷ more → WrittenAt j start rest → (js : Elements) × (j ≡ array js) × AreSpellableElements js × (start ≡ 91 ∷ (elements_text false js ++ rest))
 array_at j start more rest e w =
-    let o = only_array j rest (starts_at (locate j rest) start more rest 91 e (written_at j start rest w)) in
+    let o = begins_array j rest (first_is j start more rest 91 w.0 e w.1) in
     (o.0, o.1, subst IsSpellable o.1 w.0, w.1 ∙ ap (λ z. written z ++ rest) o.1)
 
 object_at : (j : Json) (start more rest : List ℕ) → start ≡ 123 ∷ more → WrittenAt j start rest → (ms : Members) × (j ≡ object ms) × AreSpellableMembers ms × (start ≡ 123 ∷ (members_text false ms ++ rest))
 object_at j start more rest e w =
-    let o = only_object j rest (starts_at (locate j rest) start more rest 123 e (written_at j start rest w)) in
+    let o = begins_object j rest (first_is j start more rest 123 w.0 e w.1) in
     (o.0, o.1, subst IsSpellable o.1 w.0, w.1 ∙ ap (λ z. written z ++ rest) o.1)
 
 -- ---- arrays
@@ -93,16 +74,16 @@ element_pushed : (read new : List Tree) (t : Tree) (j : Json) (more all : Elemen
 element_pushed read new t j more all is sees e =
     e ∙ sym (elements-push (map view read) j more) ∙ ap (λ z. before_elements z more) (sym (ap (map view) is ∙ map-append view read (t ∷ []) ∙ ap (λ z. map view read ++ z ∷ []) sees))
 
-element_after : (more all : Elements) (new : List Tree) (mid next rest : List ℕ) (r : Result Bool Stop) → all ≡ before_elements (map view new) more → AreSpellableElements more → mid ≡ elements_text true more ++ rest → GoesOn 93 mid r next
+element_after : (more all : Elements) (new : List Tree) (mid next rest : List ℕ) (r : Result Bool Stop) → all ≡ before_elements (map view new) more → AreSpellableElements more → mid ≡ elements_text true more ++ rest → StepsOverCommaOr 93 mid r next
     → Finds r (λ goes. ElementsLeft goes all new next rest)
-element_after no_elements all new mid next rest (Ok goes) pushed ok at on = let e = on.1 rest at in subst (λ z. ElementsLeft z all new next rest) (sym e.0) (pushed, e.1)
-element_after no_elements all new mid next rest (Err y) pushed ok at on = on.1 rest at
+element_after no_elements all new mid next rest (Ok goes) pushed ok at on = let e = over_this 93 false mid next rest (Ok goes) (λ c. omega arith) on at in subst (λ z. ElementsLeft z all new next rest) (sym e.0) (pushed, e.1)
+element_after no_elements all new mid next rest (Err y) pushed ok at on = on.all false rest at
 element_after (element j js) all new mid next rest (Ok goes) pushed ok at on =
-    let e = on.0 ((written j ++ elements_text true js) ++ rest) at in
+    let e = over_this 93 true mid next ((written j ++ elements_text true js) ++ rest) (Ok goes) (λ c. omega arith) on at in
     subst (λ z. ElementsLeft z all new next rest) (sym e.0) (j, js, pushed, (ok.0, e.1 ∙ append_assoc (written j) (elements_text true js) rest), ok.1)
-element_after (element j js) all new mid next rest (Err y) pushed ok at on = on.0 ((written j ++ elements_text true js) ++ rest) at
+element_after (element j js) all new mid next rest (Err y) pushed ok at on = on.all true ((written j ++ elements_text true js) ++ rest) at
 
-pub item_again : (read new : List Tree) (t : Tree) (here mid next : List ℕ) (r : Result Bool Stop) → new ≡ read ++ t ∷ [] → RereadsValue here (Ok t) mid → GoesOn 93 mid r next → NextItem read here r new next
+pub item_again : (read new : List Tree) (t : Tree) (here mid next : List ℕ) (r : Result Bool Stop) → new ≡ read ++ t ∷ [] → RereadsValue here (Ok t) mid → StepsOverCommaOr 93 mid r next → RereadsNextItem read here r new next
 item_again read new t here mid next r is again on = λ all rest left.
     let a = again left.0 (elements_text true left.1 ++ rest) left.3 (elements_Ends left.1 rest) in
     element_after left.1 all new mid next rest r (element_pushed read new t left.0 left.1 all is a.0 left.2) left.4 a.1 on
@@ -147,10 +128,10 @@ list_begun start more mid here false e d took =
       shorter = omega (arith, ap length e, ap length m, ap length took.0);
     }
 
-pub list_next : (start : List ℕ) (read new : List Tree) (here next : List ℕ) (goes : Bool) → ListAgain start true read here → NextItem read here (Ok goes) new next → length next < length here → ListAgain start goes new next
+pub list_next : (start : List ℕ) (read new : List Tree) (here next : List ℕ) (goes : Bool) → ListAgain start true read here → RereadsNextItem read here (Ok goes) new next → length next < length here → ListAgain start goes new next
 list_next start read new here next goes so again l = record { again = λ all rest ok w. again all rest (so.again all rest ok w); shorter = omega (arith, l, so.shorter) }
 
-pub list_fault : (start more : List ℕ) (read : List Tree) (here : List ℕ) (y : Stop) → start ≡ 91 ∷ more → ListAgain start true read here → NextItem read here (Err y) read here → (j : Json) (rest : List ℕ) → WrittenAt j start rest → y ≡ Memory
+pub list_fault : (start more : List ℕ) (read : List Tree) (here : List ℕ) (y : Stop) → start ≡ 91 ∷ more → ListAgain start true read here → RereadsNextItem read here (Err y) read here → (j : Json) (rest : List ℕ) → WrittenAt j start rest → y ≡ Memory
 list_fault start more read here y e so again j rest w = let a = array_at j start more rest e w in again a.0 rest (so.again a.0 rest a.2 a.3)
 
 pub list_done : (start more here : List ℕ) (items : List Tree) → start ≡ 91 ∷ more → ListAgain start false items here → RereadsValue start (Ok (Many items)) here
@@ -182,16 +163,16 @@ member_pushed : (read new : List Member) (t : Member) (m : List ℕ × Json) (mo
 member_pushed read new t m more all is sees e =
     e ∙ sym (members-push (map member_view read) m more) ∙ ap (λ z. before_members z more) (sym (ap (map member_view) is ∙ map-append member_view read (t ∷ []) ∙ ap (λ z. map member_view read ++ z ∷ []) sees))
 
-member_after : (more all : Members) (new : List Member) (mid next rest : List ℕ) (r : Result Bool Stop) → all ≡ before_members (map member_view new) more → AreSpellableMembers more → mid ≡ members_text true more ++ rest → GoesOn 125 mid r next
+member_after : (more all : Members) (new : List Member) (mid next rest : List ℕ) (r : Result Bool Stop) → all ≡ before_members (map member_view new) more → AreSpellableMembers more → mid ≡ members_text true more ++ rest → StepsOverCommaOr 125 mid r next
     → Finds r (λ goes. MembersLeft goes all new next rest)
-member_after no_members all new mid next rest (Ok goes) pushed ok at on = let e = on.1 rest at in subst (λ z. MembersLeft z all new next rest) (sym e.0) (pushed, e.1)
-member_after no_members all new mid next rest (Err y) pushed ok at on = on.1 rest at
+member_after no_members all new mid next rest (Ok goes) pushed ok at on = let e = over_this 125 false mid next rest (Ok goes) (λ c. omega arith) on at in subst (λ z. MembersLeft z all new next rest) (sym e.0) (pushed, e.1)
+member_after no_members all new mid next rest (Err y) pushed ok at on = on.all false rest at
 member_after (member k j ms) all new mid next rest (Ok goes) pushed ok at on =
-    let e = on.0 ((quoted k ++ 58 ∷ written j ++ members_text true ms) ++ rest) at in
+    let e = over_this 125 true mid next ((quoted k ++ 58 ∷ written j ++ members_text true ms) ++ rest) (Ok goes) (λ c. omega arith) on at in
     subst (λ z. MembersLeft z all new next rest) (sym e.0) ((k, j), ms, pushed, (ok.0, ok.1, e.1 ∙ named_text k j ms rest), ok.2)
-member_after (member k j ms) all new mid next rest (Err y) pushed ok at on = on.0 ((quoted k ++ 58 ∷ written j ++ members_text true ms) ++ rest) at
+member_after (member k j ms) all new mid next rest (Err y) pushed ok at on = on.all true ((quoted k ++ 58 ∷ written j ++ members_text true ms) ++ rest) at
 
-pub members_again : (read new : List Member) (t : Member) (here mid next : List ℕ) (r : Result Bool Stop) → new ≡ read ++ t ∷ [] → RereadsMember here (Ok t) mid → GoesOn 125 mid r next → NextMember read here r new next
+pub members_again : (read new : List Member) (t : Member) (here mid next : List ℕ) (r : Result Bool Stop) → new ≡ read ++ t ∷ [] → RereadsMember here (Ok t) mid → StepsOverCommaOr 125 mid r next → RereadsNextMember read here r new next
 members_again read new t here mid next r is again on = λ all rest left.
     let a = again left.0 (members_text true left.1 ++ rest) left.3 (members_Ends left.1 rest) in
     member_after left.1 all new mid next rest r (member_pushed read new t left.0 left.1 all is a.0 left.2) left.4 a.1 on
@@ -225,10 +206,10 @@ object_begun start more mid here false e d took =
       shorter = omega (arith, ap length e, ap length m, ap length took.0);
     }
 
-pub object_next : (start : List ℕ) (read new : List Member) (here next : List ℕ) (goes : Bool) → ObjectAgain start true read here → NextMember read here (Ok goes) new next → length next < length here → ObjectAgain start goes new next
+pub object_next : (start : List ℕ) (read new : List Member) (here next : List ℕ) (goes : Bool) → ObjectAgain start true read here → RereadsNextMember read here (Ok goes) new next → length next < length here → ObjectAgain start goes new next
 object_next start read new here next goes so again l = record { again = λ all rest ok w. again all rest (so.again all rest ok w); shorter = omega (arith, l, so.shorter) }
 
-pub object_fault : (start more : List ℕ) (read : List Member) (here : List ℕ) (y : Stop) → start ≡ 123 ∷ more → ObjectAgain start true read here → NextMember read here (Err y) read here → (j : Json) (rest : List ℕ) → WrittenAt j start rest → y ≡ Memory
+pub object_fault : (start more : List ℕ) (read : List Member) (here : List ℕ) (y : Stop) → start ≡ 123 ∷ more → ObjectAgain start true read here → RereadsNextMember read here (Err y) read here → (j : Json) (rest : List ℕ) → WrittenAt j start rest → y ≡ Memory
 object_fault start more read here y e so again j rest w = let a = object_at j start more rest e w in again a.0 rest (so.again a.0 rest a.2 a.3)
 
 pub object_done : (start more here : List ℕ) (members : List Member) → start ≡ 123 ∷ more → ObjectAgain start false members here → RereadsValue start (Ok (Object members)) here

@@ -1,6 +1,6 @@
 -- On a spelled text the scan reaches the limit exactly where the value nests so deep.
 use Rattle.std.proofs.Common.{◌≡◌, ◌≢◌, ◌≤◌, ◌<◌, ℕ, suc, drop, cond, ◌+◌, ◌-◌, ◌==◌, ◌||◌, max, nat_le, codes, nat_lt, ◌*◌, if◌then◌else◌, Option, Some, None, List, [], ◌∷◌, ◌++◌, Bool, true, false, refl, sym, ap, ◌∙◌, IsTrue, not, ◌&&◌, arith}
-use Rattle.std.proofs.lemmas.Option.{option_and_then_some}
+use Rattle.std.proofs.lemmas.Option.{option_and_then_some, same_Some}
 use Rattle.std.proofs.lemmas.Grind.{common_steps}
 use Rattle.lrs_decimal.specs.Numbers.{Each, is_digit}
 use Rattle.lrs_decimal.proofs.NumberLemmas.{is_numeric, IsNumber-numeric}
@@ -19,7 +19,7 @@ use Rattle.lrs_json_reader.specs.declared.depth.ScanState.{ScanState}
 use Rattle.lrs_json_reader.specs.declared.depth.ScanState.TheVariants.{Outside, Inside, Escaped}
 
 -- a byte that the scan passes over outside strings
-abbrev is_quiet : ℕ → Bool
+abbrev pub is_quiet : ℕ → Bool
 is_quiet b = not (opens b) && not (closes b) && not (b == 34)
 
 other : (d limit : ℕ) → d < limit → (d == limit) ≡ false
@@ -90,11 +90,8 @@ hex_not_slash b v q e = grind (arith, common_steps)
 hex_no_mark : (b v : ℕ) → hex_value_of b ≡ Some v → (b ≢ 34) × (b ≢ 92)
 hex_no_mark b v e = (λ q. hex_not_quote b v q e, λ q. hex_not_slash b v q e)
 
-some_same : {X : Type 0} (x y : X) → Some x ≡ Some y → x ≡ y
-some_same x y e = cc e
-
 some_tail : {A : Type 0} (x y : A × List ℕ) → Some x ≡ Some y → x.1 ≡ y.1
-some_tail x y e = ap (λ z. z.1) (some_same x y e)
+some_tail x y e = ap (λ z. z.1) (same_Some x y e)
 
 digit_inside : (limit d : ℕ) (bytes : List ℕ) (x : ℕ × List ℕ) → d < limit → digit_at bytes ≡ Some x → reaches limit d Inside bytes ≡ reaches limit d Inside x.1
 unfolding digit_at
@@ -110,7 +107,7 @@ unit_inside limit d bytes x l e =
     digit_inside limit d bytes a l na ∙ digit_inside limit d a.1 b l nb ∙ digit_inside limit d b.1 c l nc ∙ digit_inside limit d c.1 f l nf ∙ ap (reaches limit d Inside) (some_tail _ x e4)))))
 
 byte_found : (t : Bool) (b k : ℕ) (y x : ℕ × List ℕ) → (b == k) ≡ t → (if t then Some y else None) ≡ Some x → (b ≡ k) × (y ≡ x)
-byte_found true b k y x t e = let h : b ≡ k = grind (arith, common_steps) in (h, some_same y x e)
+byte_found true b k y x t e = let h : b ≡ k = grind (arith, common_steps) in (h, same_Some y x e)
 byte_found false b k y x t e = cc
 
 byte_is : (k : ℕ) (bytes : List ℕ) (x : ℕ × List ℕ) → byte_at k bytes ≡ Some x → bytes ≡ k ∷ x.1
@@ -183,7 +180,7 @@ quoted_quiet limit d s bs rest l q =
     let n : (d == limit) ≡ false = other d limit l in
     rw (q.2, n) (chars_inside limit d q.0 q.1 rest l q.3)
 
-numeric_quiet : (b : ℕ) → IsTrue (is_numeric b) → IsTrue (is_quiet b)
+pub numeric_quiet : (b : ℕ) → IsTrue (is_numeric b) → IsTrue (is_quiet b)
 numeric_quiet b s = grind arith
 
 comma_quiet : (limit d : ℕ) (later : Bool) (bs rest : List ℕ) → d < limit → Comma later bs rest → reaches limit d Outside bs ≡ reaches limit d Outside rest

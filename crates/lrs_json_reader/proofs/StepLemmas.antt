@@ -1,9 +1,9 @@
 -- The steps of the reader between items.
-use Rattle.std.proofs.Common.{◌≡◌, ◌↔◌, ◌≤◌, ℕ, IsTrue, not, List, [], ◌∷◌, Bool, true, false, length, Result, Ok, Err, IsErrAnd, refl, sym, ap, ◌∙◌, subst, true≢false, arith, length-append}
+use Rattle.std.proofs.Common.{◌≡◌, ◌≢◌, ◌↔◌, ◌≤◌, ℕ, IsTrue, not, List, [], ◌∷◌, Bool, true, false, length, Result, Ok, Err, IsErrAnd, refl, sym, ap, ◌∙◌, subst, true≢false, arith, length-append}
 use Rattle.lrs_json_reader.specs.Grammar.{is_space, Spaces, Comma}
 use Rattle.lrs_decimal.specs.Numbers.{Stops}
-use Rattle.lrs_json_reader.specs.Steps.{Opens, StepsToNext, Closes}
-use Rattle.lrs_json_reader.specs.Reading.{has_some}
+use Rattle.lrs_json_reader.specs.Steps.{Opens, StepsToNext, StepsOverCommaOr, Closes, Finds, comma_or}
+use Rattle.lrs_json_reader.specs.Reading.{has_items}
 use Rattle.lrs_json_reader.specs.declared.cursor.Stop.{Stop}
 use Rattle.lrs_json_reader.specs.declared.cursor.Stop.TheVariants.{Memory}
 use Rattle.lrs_decimal.proofs.Runs.{behind}
@@ -82,16 +82,29 @@ at_fault later close old s new (Err y) k lt es none q f =
       no_longer = tt;
     }
 
+-- ---- a comma, or the closing bracket
+
+told_alike : (close : ℕ) (goes went : Bool) (new rest : List ℕ) → close ≢ 44 → comma_or close went ∷ new ≡ comma_or close goes ∷ rest → (went ≡ goes) × (new ≡ rest)
+told_alike close true true new rest other e = (refl, cc e)
+told_alike close true false new rest other e = absurd (other (cc e))
+told_alike close false true new rest other e = let comma : close ≡ 44 = cc e in absurd (other comma)
+told_alike close false false new rest other e = (refl, cc e)
+
+-- which of the two stands there is told by the answer
+pub over_this : (close : ℕ) (goes : Bool) (old new rest : List ℕ) (r : Result Bool Stop) → close ≢ 44 → StepsOverCommaOr close old r new → old ≡ comma_or close goes ∷ rest → Finds r (λ went. (went ≡ goes) × (new ≡ rest))
+over_this close goes old new rest (Ok went) other on at = told_alike close goes went new rest other (sym on.found ∙ at)
+over_this close goes old new rest (Err y) other on at = on.all goes rest at
+
 -- ---- what was asked of the list so far
 
-some_or_none : {X : Type 0} (b : Bool) (xs : List X) → (IsTrue b ↔ (xs ≡ [])) → not b ≡ has_some xs
+some_or_none : {X : Type 0} (b : Bool) (xs : List X) → (IsTrue b ↔ (xs ≡ [])) → not b ≡ has_items xs
 some_or_none true [] e = refl
 some_or_none true (x ∷ xs) e = cc (e.0 refl)
 some_or_none false [] e = absurd (true≢false (sym (e.1 refl)))
 some_or_none false (x ∷ xs) e = refl
 
 -- the cursor was asked with whether something stands before
-pub goes_later : {X : Type 0} {b : Bool} {xs : List X} {close : ℕ} {old new : List ℕ} {r : Result Bool Stop} → (IsTrue b ↔ (xs ≡ [])) → StepsToNext (not b) close old r new → StepsToNext (has_some xs) close old r new
+pub goes_later : {X : Type 0} {b : Bool} {xs : List X} {close : ℕ} {old new : List ℕ} {r : Result Bool Stop} → (IsTrue b ↔ (xs ≡ [])) → StepsToNext (not b) close old r new → StepsToNext (has_items xs) close old r new
 goes_later {b = b} {xs = xs} {close = close} {old = old} {new = new} {r = r} e go = subst (λ z. StepsToNext z close old r new) (some_or_none b xs e) go
 
 pub goes_at : {a later b : Bool} {close : ℕ} {old new : List ℕ} → a ≡ b → StepsToNext later close old (Ok a) new → StepsToNext later close old (Ok b) new

@@ -52,4 +52,4 @@ earlier (Some a) (Some b) = Some (max a b)
 -- The earliest has the most bytes left.
 abbrev pub earliest : List ℕ → Option ℕ
 earliest [] = None
-earliest (left ∷ flaws) = earlier (Some left) (earliest flaws)
+earliest (left ∷ lefts) = earlier (Some left) (earliest lefts)

@@ -20,7 +20,7 @@ mutual
     no_members : Members
     member : ℕ → List ℕ → Located → Members → Members
 
--- without the flaws
+-- the same value, without the offsets
 abbrev mutual
   pub plain : Located → Json.Json
   plain null = Json.null

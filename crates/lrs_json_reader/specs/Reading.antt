@@ -56,40 +56,43 @@ pub record Found {T X Y : Type 0} (Is : X → List ℕ → List ℕ → Type 0) 
 abbrev pub Misses : {X : Type 0} → (X → List ℕ → List ℕ → Type 0) → Reader → Stop → Type 0
 Misses {X} Is old e = (x : X) (rest : List ℕ) → Is x old.cursor rest → Ends rest → e ≡ Memory
 
-abbrev pub Reads : {T X Y : Type 0} → (X → List ℕ → List ℕ → Type 0) → (X → Y) → (T → Y) → (Flaws → X → Flaws)
+abbrev pub FindsOrMisses : {T X Y : Type 0} → (X → List ℕ → List ℕ → Type 0) → (X → Y) → (T → Y) → (Flaws → X → Flaws)
     → Reader → Result T Stop → Reader → Type 0
-Reads Is shown seen note old r new = MatchResult r (λ t. Found Is shown seen note old t new) (λ e. Misses Is old e)
+FindsOrMisses Is shown seen note old r new =
+    MatchResult r (λ t. Found Is shown seen note old t new) (λ e. Misses Is old e)
 
 -- the same of a literal word, of a string and of a number
 abbrev pub ReadsWord : List ℕ → Tree → Reader → Result Tree Stop → Reader → Type 0
 ReadsWord word tree old r new =
-    Reads {X = Unit {0}} (λ _ bytes rest. bytes ≡ word ++ rest) (λ _. view tree) view (λ flaws _. flaws) old r new
+    FindsOrMisses {X = Unit {0}} (λ _ bytes rest. bytes ≡ word ++ rest) (λ _. view tree) view (λ flaws _. flaws)
+    old r new
 
 abbrev pub ReadsString : Reader → Result Tree Stop → Reader → Type 0
-ReadsString old r new = Reads Quoted string view (λ flaws _. flaws) old r new
+ReadsString old r new = FindsOrMisses Quoted string view (λ flaws _. flaws) old r new
 
 abbrev pub NumberAt : ℕ × List ℕ → List ℕ → List ℕ → Type 0
 NumberAt n bytes rest = Value (number n.0 n.1) bytes rest
 
 abbrev pub ReadsNumber : Reader → Result Tree Stop → Reader → Type 0
-ReadsNumber old r new = Reads NumberAt (λ n. Json.number n.1) view (λ flaws n. noted flaws (number n.0 n.1)) old r new
+ReadsNumber old r new =
+    FindsOrMisses NumberAt (λ n. Json.number n.1) view (λ flaws n. noted flaws (number n.0 n.1)) old r new
 
 abbrev pub ReadsValue : Reader → Result Tree Stop → Reader → Type 0
-ReadsValue old r new = Reads Value plain view noted old r new
+ReadsValue old r new = FindsOrMisses Value plain view noted old r new
 
 abbrev pub ReadsMember : Reader → Result Member Stop → Reader → Type 0
-ReadsMember old r new = Reads Pair plain_entry member_view noted_entry old r new
+ReadsMember old r new = FindsOrMisses Pair plain_entry member_view noted_entry old r new
 
-abbrev pub has_some : {X : Type 0} → List X → Bool
-has_some [] = false
-has_some (x ∷ xs) = true
+abbrev pub has_items : {X : Type 0} → List X → Bool
+has_items [] = false
+has_items (x ∷ xs) = true
 
 -- the repeated names among these, each by its offset, after others
 abbrev pub repeated_among : List (List ℕ) → List (List ℕ) → List ℕ → List ℕ
-repeated_among names [] flaws = []
+repeated_among names [] lefts = []
 repeated_among names (k ∷ ks) [] = []
-repeated_among names (k ∷ ks) (left ∷ flaws) =
-    (if is_among k names then left ∷ [] else []) ++ repeated_among (k ∷ names) ks flaws
+repeated_among names (k ∷ ks) (left ∷ lefts) =
+    (if is_among k names then left ∷ [] else []) ++ repeated_among (k ∷ names) ks lefts
 
 abbrev pub no_flaws : Flaws
 no_flaws = record { repeated = None; out_of_range = None }

@@ -72,15 +72,10 @@ MembersLeft true all read here rest =
 MembersLeft false all read here rest = (all ≡ before_members (map member_view read) no_members) × (here ≡ rest)
 
 -- One more was read, and whether another comes.
-abbrev pub NextItem : List Tree → List ℕ → Result Bool Stop → List Tree → List ℕ → Type 0
-NextItem read here r reread next = (all : Elements) (rest : List ℕ) → ElementsLeft true all read here rest
+abbrev pub RereadsNextItem : List Tree → List ℕ → Result Bool Stop → List Tree → List ℕ → Type 0
+RereadsNextItem read here r reread next = (all : Elements) (rest : List ℕ) → ElementsLeft true all read here rest
     → Finds r (λ goes. ElementsLeft goes all reread next rest)
 
-abbrev pub NextMember : List Member → List ℕ → Result Bool Stop → List Member → List ℕ → Type 0
-NextMember read here r reread next = (all : Members) (rest : List ℕ) → MembersLeft true all read here rest
+abbrev pub RereadsNextMember : List Member → List ℕ → Result Bool Stop → List Member → List ℕ → Type 0
+RereadsNextMember read here r reread next = (all : Members) (rest : List ℕ) → MembersLeft true all read here rest
     → Finds r (λ goes. MembersLeft goes all reread next rest)
-
--- The cursor went over a comma, or over the closing bracket.
-abbrev pub GoesOn : ℕ → List ℕ → Result Bool Stop → List ℕ → Type 0
-GoesOn close old r new = ((rest : List ℕ) → old ≡ 44 ∷ rest → Finds r (λ goes. (goes ≡ true) × (new ≡ rest)))
-    × ((rest : List ℕ) → old ≡ close ∷ rest → Finds r (λ goes. (goes ≡ false) × (new ≡ rest)))

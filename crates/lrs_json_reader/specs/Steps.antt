@@ -1,6 +1,6 @@
 -- What the cursor's private functions say.
 use Rattle.std.specs.Prelude.{◌≡◌, ◌≢◌, ℕ, ◌≤◌, take, drop, IsUtf8, length, List, [], ◌∷◌, Bool, true, false, Result}
-use Rattle.std.specs.Prelude.{MatchResult, IfOk, OnOk}
+use Rattle.std.specs.Prelude.{MatchResult, IfOk, OnOk, if◌then◌else◌}
 use Rattle.lrs_json.specs.Written.{is_plain}
 use Rattle.lrs_json_reader.specs.Grammar.{is_space, Spaces, Comma, Chars}
 use Rattle.std.specs.List.{flat_map}
@@ -28,6 +28,15 @@ pub record StepsToNext (later : Bool) (close : ℕ) (old : List ℕ) (r : Result
       → Finds r (λ more. (more ≡ true) × (new ≡ b))
   pub all_end : (rest : List ℕ) → Spaces old (close ∷ rest) → Finds r (λ more. (more ≡ false) × (new ≡ rest))
   pub no_longer : OnOk r (length new ≤ length old)
+
+-- what follows an item where no white space does: a comma, or the closing bracket
+abbrev pub comma_or : ℕ → Bool → ℕ
+comma_or close goes = if goes then 44 else close
+
+-- The cursor went over one of the two, and told whether it was the comma.
+pub record StepsOverCommaOr (close : ℕ) (old : List ℕ) (r : Result Bool Stop) (new : List ℕ) : Type 0 where
+  pub found : IfOk r (λ goes. old ≡ comma_or close goes ∷ new)
+  pub all : (goes : Bool) (rest : List ℕ) → old ≡ comma_or close goes ∷ rest → Finds r (λ _. Unit {0})
 
 -- a byte that may close an array or an object
 pub record Closes (close : ℕ) : Type 0 where

@@ -5,7 +5,7 @@ ghost use Rattle.lrs_decimal.specs.Numbers.{IsNumber, Ends};
 ghost use Rattle.lrs_json_reader.specs.Grammar.{is_space, Quoted};
 ghost use Rattle.lrs_json_reader.specs.Strings.{piece_at, piece_text};
 ghost use Rattle.lrs_json_reader.specs.declared.strings.Piece.{Piece as SpecPiece};
-ghost use Rattle.lrs_json_reader.specs.Steps.{Finds, StepsToNext, Closes, IsPlain, Within};
+ghost use Rattle.lrs_json_reader.specs.Steps.{Finds, StepsToNext, StepsOverCommaOr, Closes, IsPlain, Within};
 
 use crate::strings::{Piece, next_piece};
 use lrs_decimal::number_len;
@@ -166,6 +166,18 @@ impl Cursor<'_> {
             self.skip_spaces();
         }
         Ok(true)
+    }
+
+    /// Steps over the comma before another item, or over the closing bracket. Tells whether it was the comma.
+    pub fn comma_or(&mut self, close: u8) -> Result<bool, Stop>
+        ensures steps { StepsOverCommaOr close self.old result self.new }
+        ensures shorter { OnOk result (length self.new < length self.old) }
+    {
+        if self.take(b",") {
+            return Ok(true);
+        }
+        self.word(&[close])?;
+        Ok(false)
     }
 }
 

@@ -1,9 +1,12 @@
-ghost use Rattle.std.specs.Prelude.{◌≡◌, ◌≤◌, ◌<◌, ◌^◌, ℕ, length};
+ghost use Rattle.std.specs.Prelude.{◌≡◌, ◌≤◌, ◌<◌, ◌+◌, ◌^◌, ℕ, length};
 ghost use Rattle.lrs_json_reader.specs.Brackets.{depth_after, mode_after, reaches};
 ghost use Rattle.lrs_json_reader.specs.Refusals.{is_too_deep};
 ghost use Rattle.lrs_json_reader.specs.declared.depth.ScanState.TheVariants.{Outside};
 
 use lrs_json::appending::plain_len;
+
+/// No caller may set a limit of depth above this: reading recurses as deep as its limit.
+pub const MOST_DEPTH: u32 = 128;
 
 /// Where a scan of the bytes stands.
 #[derive(Clone, Copy, Debug, PartialEq)]
@@ -55,7 +58,7 @@ impl ScanState {
 
 /// Whether the brackets nest deeper than `depth`: a scan of the bytes, for whoever must not recurse so far.
 pub fn is_too_deep(bytes: &[u8], depth: u32) -> bool
-    requires { depth ≤ 128 }
+    requires { depth ≤ MOST_DEPTH }
     ensures { result ≡ is_too_deep depth bytes.now }
 {
     reaches(bytes, depth + 1)
@@ -64,7 +67,7 @@ pub fn is_too_deep(bytes: &[u8], depth: u32) -> bool
 // Whether the depth of the brackets reaches the limit.
 fn reaches(bytes: &[u8], limit: u32) -> bool
     requires low { 0 < limit }
-    requires high { limit < 1000 }
+    requires high { limit ≤ MOST_DEPTH + 1 }
     ensures { result ≡ reaches limit 0 Outside bytes.now }
 {
     let mut depth = 0;

@@ -10,7 +10,7 @@ mod rereading;
 mod strings;
 
 pub use cursor::{Cursor, Stop};
-pub use depth::is_too_deep;
+pub use depth::{MOST_DEPTH, is_too_deep};
 pub use naming::{FEW_MEMBERS, is_named};
 pub use reading::{ReadRefused, read, read_to};
 pub use rereading::reread;

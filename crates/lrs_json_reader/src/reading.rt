@@ -8,7 +8,7 @@ ghost use Rattle.lrs_json_reader.specs.Refusals.{is_too_deep, Spells, IsBad, Rep
 ghost use Rattle.lrs_json_reader.specs.Reading.{ReadsText, Judges};
 
 use crate::cursor::{Cursor, Stop};
-use crate::depth::is_too_deep;
+use crate::depth::{MOST_DEPTH, is_too_deep};
 use crate::reader::{Flaws, Reader};
 use lrs_json::{DEPTH, Memory, Tree};
 use std::alloc::Global;
@@ -60,7 +60,7 @@ pub fn read(alloc: Global, bytes: &[u8]) -> Result<Tree, ReadRefused>
 
 /// The tree that the bytes spell, nested at most `depth` deep.
 pub fn read_to(alloc: Global, bytes: &[u8], depth: u32) -> Result<Tree, ReadRefused>
-    requires { depth ≤ 128 }
+    requires { depth ≤ MOST_DEPTH }
     ensures too_deep { (result ≡ Err ReadRefused.TooDeep) ↔ IsTrue (is_too_deep depth bytes.now) }
     ensures bad { Refuses result ReadRefused.Bad (IsBad depth bytes.now) }
     ensures repeated { (offset : ℕ) → Refuses result (ReadRefused.Repeated offset) (RepeatedAt depth bytes.now offset) }
@@ -84,7 +84,7 @@ pub fn read_to(alloc: Global, bytes: &[u8], depth: u32) -> Result<Tree, ReadRefu
     }
 }
 
-// The value of the whole text, and the flaws of what is wrong with it.
+// The value of the whole text, and the flaws in it.
 fn read_text(alloc: Global, bytes: &[u8]) -> Result<(Tree, Flaws), Stop>
     ensures { ReadsText bytes.now result }
 {

@@ -3,7 +3,7 @@ ghost use Rattle.lrs_json.specs.View.{view};
 ghost use Rattle.lrs_json.specs.Written.{written_tree};
 ghost use Rattle.lrs_json.specs.declared.tree.Tree.{Tree as SpecTree};
 ghost use Rattle.lrs_json.specs.Spellable.{IsSpellable};
-ghost use Rattle.lrs_json_reader.specs.Rereading.{RereadsWord, RereadsString, RereadsNumber, RereadsLeaf, RereadsValue, RereadsMember, NextItem, NextMember, GoesOn};
+ghost use Rattle.lrs_json_reader.specs.Rereading.{RereadsWord, RereadsString, RereadsNumber, RereadsLeaf, RereadsValue, RereadsMember, RereadsNextItem, RereadsNextMember};
 
 use crate::cursor::{Cursor, Stop};
 use lrs_json::{Items, Member, Memory, Number, Tree};
@@ -53,11 +53,11 @@ fn list(cursor: &mut Cursor<'_>) -> Result<Tree, Stop>
 // One item more, and what follows it. Tells whether another comes.
 #[cycle(reread)]
 fn next_item(cursor: &mut Cursor<'_>, items: &mut Items<Tree>) -> Result<bool, Stop>
-    ensures again { NextItem items.old cursor.old result items.new cursor.new }
+    ensures again { RereadsNextItem items.old cursor.old result items.new cursor.new }
     ensures shorter { OnOk result (length cursor.new < length cursor.old) }
 {
     items.push(value(cursor)?)?;
-    goes_on(b']', cursor)
+    cursor.comma_or(b']')
 }
 
 #[cycle(reread)]
@@ -78,11 +78,11 @@ fn object(cursor: &mut Cursor<'_>) -> Result<Tree, Stop>
 // One member more, and what follows it. Tells whether another comes.
 #[cycle(reread)]
 fn next_member(cursor: &mut Cursor<'_>, members: &mut Items<Member>) -> Result<bool, Stop>
-    ensures again { NextMember members.old cursor.old result members.new cursor.new }
+    ensures again { RereadsNextMember members.old cursor.old result members.new cursor.new }
     ensures shorter { OnOk result (length cursor.new < length cursor.old) }
 {
     members.push(member(cursor)?)?;
-    goes_on(b'}', cursor)
+    cursor.comma_or(b'}')
 }
 
 #[cycle(reread)]
@@ -94,19 +94,6 @@ fn member(cursor: &mut Cursor<'_>) -> Result<Member, Stop>
     cursor.word(b":")?;
     let value = value(cursor)?;
     Ok(Member { name, value })
-}
-
-// Steps over the comma before another item, or over the closing bracket.
-fn goes_on(close: u8, cursor: &mut Cursor<'_>) -> Result<bool, Stop>
-    requires { close ≢ 44 }
-    ensures again { GoesOn close cursor.old result cursor.new }
-    ensures shorter { OnOk result (length cursor.new < length cursor.old) }
-{
-    if cursor.take(b",") {
-        return Ok(true);
-    }
-    cursor.word(&[close])?;
-    Ok(false)
 }
 
 // A value that holds no others.

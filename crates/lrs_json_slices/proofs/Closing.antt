@@ -1,5 +1,5 @@
 -- What is behind the closing bracket of a written array or object.
-use Rattle.std.proofs.Common.{◌≡◌, ◌<◌, ℕ, suc, ◌+◌, ◌-◌, ◌==◌, ◌&&◌, not, codes, if◌then◌else◌, List, [], ◌∷◌, ◌++◌, Bool, true, false, IsTrue, refl, sym, ap, ◌∙◌, arith}
+use Rattle.std.proofs.Common.{◌≡◌, ◌<◌, ℕ, suc, ◌+◌, ◌-◌, ◌==◌, codes, if◌then◌else◌, List, [], ◌∷◌, ◌++◌, Bool, true, false, IsTrue, refl, sym, ap, ◌∙◌, arith}
 use Rattle.std.specs.List.{flat_map}
 use Rattle.std.proofs.lemmas.Grind.{common_steps}
 use Rattle.lrs_decimal.specs.Numbers.{Each}
@@ -10,6 +10,7 @@ use Rattle.lrs_json.specs.Written.{comma_if, elements_text, escaped, members_tex
 use Rattle.lrs_json_reader.specs.Brackets.{closes, mode_after, opens}
 use Rattle.lrs_json_reader.specs.declared.depth.ScanState.TheVariants.{Outside, Inside, Escaped}
 use Rattle.lrs_json_reader.proofs.Alike.{element_parts, member_parts}
+use Rattle.lrs_json_reader.proofs.Scan.{is_quiet, numeric_quiet}
 use Rattle.lrs_json_slices.specs.Scanning.{behind_close, behind_quote}
 use Rattle.lrs_json_slices.proofs.Quotes.{quote_left}
 
@@ -50,9 +51,6 @@ quoted_passed d text rest deep = string_passed d ((flat_map escaped text ++ 34 �
 
 -- ---- bytes that are no brackets and no quotes
 
-abbrev is_quiet : ℕ → Bool
-is_quiet b = not (opens b) && not (closes b) && not (b == 34)
-
 quiet : (d b : ℕ) (bs : List ℕ) → IsOpen d → IsTrue (is_quiet b) → behind_close d Outside (b ∷ bs) ≡ behind_close d Outside bs
 quiet d b bs deep q =
     let o : opens b ≡ false = grind arith in
@@ -63,9 +61,6 @@ quiet d b bs deep q =
 quiet_run : (d : ℕ) (xs bs : List ℕ) → IsOpen d → Each is_quiet xs → behind_close d Outside (xs ++ bs) ≡ behind_close d Outside bs
 quiet_run d [] bs deep each = refl
 quiet_run d (x ∷ xs) bs deep each = quiet d x (xs ++ bs) deep each.0 ∙ quiet_run d xs bs deep each.1
-
-numeric_quiet : (b : ℕ) → IsTrue (is_numeric b) → IsTrue (is_quiet b)
-numeric_quiet b s = grind arith
 
 numerals_quiet : (s : List ℕ) → Each is_numeric s → Each is_quiet s
 numerals_quiet [] each = tt

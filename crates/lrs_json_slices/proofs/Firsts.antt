@@ -1,29 +1,23 @@
 -- The first byte of a written form tells its kind.
-use Rattle.std.proofs.Common.{◌≡◌, ℕ, List, [], ◌∷◌, ◌++◌, true, false, IsTrue, None, drop, true≢false, refl, sym, ap, subst, ◌∙◌, arith}
+use Rattle.std.proofs.Common.{◌≡◌, ℕ, List, [], ◌∷◌, ◌++◌, true, false, IsTrue, drop, refl, sym, ap, subst, ◌∙◌, arith}
 use Rattle.std.proofs.Math.Logic.{∥∥₁_elim, ∥∥₁_map}
 use Rattle.std.specs.Coded.{Coded-set, coded_bool}
 use Rattle.std.specs.List.{flat_map}
 use Rattle.std.proofs.lemmas.List.{append-nil}
 use Rattle.lrs_decimal.proofs.NumberLemmas.{IsNumber-begins, begins_number}
 use Rattle.lrs_json.specs.Json.{Json, null, boolean, number, string, array, object, Elements, no_elements, element, Members, no_members, member}
-use Rattle.lrs_json.specs.Parts.{items_in, members_in, text_in}
 use Rattle.lrs_json.specs.Spellable.{AreSpellableElements, IsSpellable}
 use Rattle.lrs_json.specs.Written.{elements_text, escaped, members_text, written}
 use Rattle.lrs_json_reader.proofs.Alike.{first_same}
+use Rattle.lrs_json_reader.proofs.Ends.{starts_not_93}
+use Rattle.lrs_json_reader.proofs.FirstBytes.{begins_array, begins_object, begins_string}
+use Rattle.lrs_json_reader.proofs.Values.{Starts}
+use Rattle.lrs_json_reader.proofs.WrittenLemmas.{locate}
 use Rattle.lrs_json_slices.specs.Single.{ItemsFrom-prop, MembersFrom-prop, TextFrom-prop, same_json}
 use Rattle.lrs_json_slices.specs.Spelled.{IsSpelled, ItemsFrom, MembersFrom, TextFrom, WrittenFrom}
 
-abbrev Begins : Json → ℕ → Type 0
-Begins null b = b ≡ 110
-Begins (boolean true) b = b ≡ 116
-Begins (boolean false) b = b ≡ 102
-Begins (number s) b = IsTrue (begins_number b)
-Begins (string s) b = b ≡ 34
-Begins (array js) b = b ≡ 91
-Begins (object ms) b = b ≡ 123
-
 -- what it begins with, whatever follows it
-begins : (j : Json) (more : List ℕ) (b : ℕ) (rest : List ℕ) → IsSpelled j → written j ++ more ≡ b ∷ rest → Begins j b
+begins : (j : Json) (more : List ℕ) (b : ℕ) (rest : List ℕ) → IsSpelled j → written j ++ more ≡ b ∷ rest → Starts (locate j more) b
 begins null more b rest s e = first_same b 110 rest ((117 ∷ 108 ∷ 108 ∷ []) ++ more) (sym e)
 begins (boolean true) more b rest s e = first_same b 116 rest ((114 ∷ 117 ∷ 101 ∷ []) ++ more) (sym e)
 begins (boolean false) more b rest s e = first_same b 102 rest ((97 ∷ 108 ∷ 115 ∷ 101 ∷ []) ++ more) (sym e)
@@ -34,35 +28,8 @@ begins (string t) more b rest s e = first_same b 34 rest ((flat_map escaped t ++
 begins (array js) more b rest s e = first_same b 91 rest (elements_text false js ++ more) (sym e)
 begins (object ms) more b rest s e = first_same b 123 rest (members_text false ms ++ more) (sym e)
 
-begins_whole : (bytes rest : List ℕ) (b : ℕ) (w : WrittenFrom bytes) → bytes ≡ b ∷ rest → Begins w.0 b
+begins_whole : (bytes rest : List ℕ) (b : ℕ) (w : WrittenFrom bytes) → bytes ≡ b ∷ rest → Starts (locate w.0 []) b
 begins_whole bytes rest b w e = begins w.0 [] b rest w.1.0 (append-nil (written w.0) ∙ sym w.1.1 ∙ e)
-
-is_string : (j : Json) → Begins j 34 → (s : List ℕ) × (j ≡ string s)
-is_string null b = absurd (omega arith)
-is_string (boolean true) b = absurd (omega arith)
-is_string (boolean false) b = absurd (omega arith)
-is_string (number s) b = absurd (true≢false (sym b))
-is_string (string s) b = (s, refl)
-is_string (array js) b = absurd (omega arith)
-is_string (object ms) b = absurd (omega arith)
-
-is_array : (j : Json) → Begins j 91 → (js : Elements) × (j ≡ array js)
-is_array null b = absurd (omega arith)
-is_array (boolean true) b = absurd (omega arith)
-is_array (boolean false) b = absurd (omega arith)
-is_array (number s) b = absurd (true≢false (sym b))
-is_array (string s) b = absurd (omega arith)
-is_array (array js) b = (js, refl)
-is_array (object ms) b = absurd (omega arith)
-
-is_object : (j : Json) → Begins j 123 → (ms : Members) × (j ≡ object ms)
-is_object null b = absurd (omega arith)
-is_object (boolean true) b = absurd (omega arith)
-is_object (boolean false) b = absurd (omega arith)
-is_object (number s) b = absurd (true≢false (sym b))
-is_object (string s) b = absurd (omega arith)
-is_object (array js) b = absurd (omega arith)
-is_object (object ms) b = (ms, refl)
 
 -- bytes are seen as the value of which they are the written form
 pub seen_as : (bytes : List ℕ) (w : WrittenFrom bytes) (j : Json) → IsSpellable j → bytes ≡ written j → w.0 ≡ j
@@ -72,7 +39,7 @@ seen_as bytes w j s e = same_json w.0 j w.1.0 ∣ s ∣₁ (sym w.1.1 ∙ e)
 
 pub quote_first : (bytes rest : List ℕ) (w : WrittenFrom bytes) → bytes ≡ 34 ∷ rest → (t : TextFrom bytes) × (w.0 ≡ string t.0)
 quote_first bytes rest w e =
-    let is = is_string w.0 (begins_whole bytes rest 34 w e) in
+    let is = begins_string w.0 [] (begins_whole bytes rest 34 w e) in
     ((is.0, w.1.1 ∙ ap written is.1), is.1)
 
 pub text_seen : (bytes rest : List ℕ) (w : WrittenFrom bytes) → bytes ≡ 34 ∷ rest → (t : TextFrom bytes) → w.0 ≡ string t.0
@@ -82,7 +49,7 @@ text_seen bytes rest w e t = let q = quote_first bytes rest w e in q.1 ∙ ap (�
 
 pub list_first : (bytes rest behind : List ℕ) (w : WrittenFrom bytes) → bytes ≡ 91 ∷ rest → behind ≡ drop 1 bytes → (i : ItemsFrom behind) × (w.0 ≡ array i.0)
 list_first bytes rest behind w e left =
-    let is = is_array w.0 (begins_whole bytes rest 91 w e) in
+    let is = begins_array w.0 [] (begins_whole bytes rest 91 w e) in
     ((is.0, (subst IsSpelled is.1 w.1.0, left ∙ ap (drop 1) (w.1.1 ∙ ap written is.1))), is.1)
 
 pub list_seen : (bytes rest behind : List ℕ) (w : WrittenFrom bytes) → bytes ≡ 91 ∷ rest → behind ≡ drop 1 bytes → (i : ItemsFrom behind) → w.0 ≡ array i.0
@@ -92,7 +59,7 @@ list_seen bytes rest behind w e left i = let q = list_first bytes rest behind w 
 
 pub object_first : (bytes rest behind : List ℕ) (w : WrittenFrom bytes) → bytes ≡ 123 ∷ rest → behind ≡ drop 1 bytes → (m : MembersFrom behind) × (w.0 ≡ object m.0)
 object_first bytes rest behind w e left =
-    let is = is_object w.0 (begins_whole bytes rest 123 w e) in
+    let is = begins_object w.0 [] (begins_whole bytes rest 123 w e) in
     ((is.0, (subst IsSpelled is.1 w.1.0, left ∙ ap (drop 1) (w.1.1 ∙ ap written is.1))), is.1)
 
 pub object_seen : (bytes rest behind : List ℕ) (w : WrittenFrom bytes) → bytes ≡ 123 ∷ rest → behind ≡ drop 1 bytes → (m : MembersFrom behind) → w.0 ≡ object m.0
@@ -100,18 +67,11 @@ object_seen bytes rest behind w e left m = let q = object_first bytes rest behin
 
 -- ---- with a closing one
 
-no_close : (j : Json) → Begins j 93 → ⊥
-no_close null b = omega arith
-no_close (boolean true) b = omega arith
-no_close (boolean false) b = omega arith
-no_close (number s) b = true≢false (sym b)
-no_close (string s) b = omega arith
-no_close (array js) b = omega arith
-no_close (object ms) b = omega arith
-
 items_end_at : (js : Elements) (rest : List ℕ) → ∥ AreSpellableElements js ∥₁ → elements_text false js ≡ 93 ∷ rest → js ≡ no_elements
 items_end_at no_elements rest s e = refl
-items_end_at (element j js) rest s e = absurd (no_close j (begins j (elements_text true js) 93 rest (∥∥₁_map s (λ f. f.0)) e))
+items_end_at (element j js) rest s e =
+    let more = elements_text true js in
+    absurd (starts_not_93 (locate j more) 93 (begins j more 93 rest (∥∥₁_map s (λ f. f.0)) e) refl)
 
 pub items_end : (bytes rest : List ℕ) (w : ItemsFrom bytes) → bytes ≡ 93 ∷ rest → w.0 ≡ no_elements
 items_end bytes rest w e = items_end_at w.0 rest w.1.0 (sym w.1.1 ∙ e)

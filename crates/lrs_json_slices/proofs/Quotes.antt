@@ -3,7 +3,7 @@ use Rattle.std.proofs.Common.{◌≡◌, ◌≢◌, ◌<◌, ℕ, suc, ◌+◌, 
 use Rattle.std.specs.List.{flat_map, prefix_len}
 use Rattle.std.proofs.lemmas.Grind.{common_steps}
 use Rattle.lrs_json.specs.Written.{escaped, hex_digit_of, is_plain}
-use Rattle.lrs_json_reader.proofs.Escapes.{is_short}
+use Rattle.lrs_json_reader.proofs.Escapes.{control_escaped, is_short}
 use Rattle.lrs_json_slices.specs.Scanning.{behind_quote}
 
 -- a byte that is no quote and no backslash
@@ -38,10 +38,6 @@ hex_no_mark n l = (grind (arith, common_steps), grind (arith, common_steps))
 short_step : (b : ℕ) (x : List ℕ) → is_short b ≡ true → behind_quote false (escaped b ++ x) ≡ behind_quote false x
 unfolding escaped
 short_step b x s = grind (arith, common_steps)
-
-control_escaped : (b : ℕ) → is_short b ≡ false → nat_lt b 32 ≡ true → escaped b ≡ 92 ∷ 117 ∷ 48 ∷ 48 ∷ hex_digit_of (b / 16) ∷ hex_digit_of (b % 16) ∷ []
-unfolding escaped
-control_escaped b s n = grind (arith, common_steps)
 
 control_step : (b : ℕ) (x : List ℕ) → is_short b ≡ false → nat_lt b 32 ≡ true → behind_quote false (escaped b ++ x) ≡ behind_quote false x
 control_step b x s n =

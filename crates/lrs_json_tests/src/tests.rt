@@ -2,7 +2,7 @@ ghost use Rattle.std.specs.Prelude.{◌≤◌};
 
 use lrs_json::{Items, Memory, Text, Tree, is_written, write};
 use lrs_json_equal::same_value;
-use lrs_json_reader::{ReadRefused, Stop, read, read_to, reread};
+use lrs_json_reader::{MOST_DEPTH, ReadRefused, Stop, read, read_to, reread};
 use lrs_json_written::{Cursor, read_tree};
 use std::alloc::Global;
 
@@ -41,7 +41,7 @@ const LAWFUL: [(&str, &str); 10] = [
     ("\"\u{7f}\u{e9}\"", "\"\u{7f}\u{e9}\""),
 ];
 
-// The place of the first row that is wrong.
+// The index of the first row that is wrong.
 fn wrong_lawful(alloc: Global) -> Option<usize> {
     for (i, (text, wanted)) in LAWFUL.iter().enumerate() {
         let rewritten = is_rewritten_to(alloc, text.as_bytes(), wanted.as_bytes());
@@ -237,7 +237,7 @@ const READ_BACK: [(&str, u32, bool); 63] = [
     ("[[1],{}]", 1, false),
     ("{\"a\":{\"b\":[]}}", 2, false),
     ("{\"a\":{\"b\":[]}}", 3, true),
-    // white space at each place
+    // white space wherever it may stand
     (" 1", 2, false),
     ("1 ", 2, false),
     ("\t[]", 2, false),
@@ -435,7 +435,7 @@ fn wrong_fault(alloc: Global) -> Option<usize> {
 }
 
 #[test]
-fn faults_have_their_places(rt: HostRuntime) {
+fn faults_have_their_offsets(rt: HostRuntime) {
     assert_eq!(rt; wrong_fault(rt.alloc()), None);
 }
 
@@ -452,7 +452,7 @@ fn sixty_four_brackets_are_not_too_deep(rt: HostRuntime) {
 }
 
 fn refusal_at_depth(alloc: Global, text: &[u8], depth: u32) -> Option<ReadRefused>
-    requires { depth ≤ 128 }
+    requires { depth ≤ MOST_DEPTH }
 {
     match read_to(alloc, text, depth) {
         Ok(_) => None,

@@ -1,5 +1,5 @@
 -- Whether the names of an object are distinct, as far as a loop came.
-use Rattle.std.proofs.Common.{◌≡◌, ◌≤◌, ◌<◌, ◌+◌, ℕ, suc, add-one, drop-cons, get_or, length, List, [], ◌∷◌, ◌++◌, map, take, drop, Bool, true, false, not, ◌&&◌, ◌||◌, refl, sym, ap, ◌∙◌, subst}
+use Rattle.std.proofs.Common.{◌≡◌, ◌≤◌, ◌<◌, ◌+◌, ℕ, get_or, length, List, [], ◌∷◌, ◌++◌, map, take, drop, Bool, true, false, not, ◌&&◌, ◌||◌, refl, sym, ap, ◌∙◌, subst}
 use Rattle.std.specs.BTreeSet.{UpdatesBy}
 use Rattle.std.specs.Cmp.Lexicographic.{slice_cmp}
 use Rattle.std.specs.Ordering.{nat_cmp}
@@ -10,10 +10,8 @@ use Rattle.lrs_json.specs.Names.{are_new, is_among}
 use Rattle.lrs_json.specs.View.{member_view}
 use Rattle.lrs_json.specs.declared.tree.Member.{Member}
 use Rattle.lrs_json.proofs.Sets.{Names, SetSoFar, has_name, name_again, name_new, names_done}
+use Rattle.lrs_json.proofs.Lists.{drop_item}
 use Rattle.lrs_json_written.specs.Fitting.{names_in}
-
-left_from : {A : Type 0} (xs : List A) (i : ℕ) (x : A) → i < length xs → x ≡ get_or xs i x → drop i xs ≡ x ∷ drop (i + 1) xs
-left_from xs i x within at = rw add-one (drop-cons xs i x within ∙ ap (λ z. z ∷ drop (suc i) xs) (sym at))
 
 -- The names before are those so far, and all are new where those that are left are, after these.
 pub record NewSoFar (before left all : List (List ℕ)) : Type 0 where
@@ -40,7 +38,7 @@ names_more ms i m within at =
     ap (λ us. names_in us) (take_more ms i m within ∙ ap (λ x. take i ms ++ x ∷ []) (sym at)) ∙ names_end (take i ms) m
 
 names_left : (ms : List Member) (i : ℕ) (m : Member) → i < length ms → m ≡ get_or ms i m → names_in (drop i ms) ≡ (member_view m).0 ∷ names_in (drop (i + 1) ms)
-names_left ms i m within at = ap (λ us. names_in us) (left_from ms i m within at)
+names_left ms i m within at = ap (λ us. names_in us) (drop_item ms i m within at)
 
 -- a name that is new
 new_more : (before after left all : List (List ℕ)) (k : List ℕ) → NewSoFar before (k ∷ left) all → is_among k before ≡ false

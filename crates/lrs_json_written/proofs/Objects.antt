@@ -9,6 +9,7 @@ use Rattle.lrs_json.specs.Written.{comma_if, members_text, quoted, written}
 use Rattle.lrs_json.specs.declared.tree.Member.{Member}
 use Rattle.lrs_json.specs.declared.tree.Tree.{Tree, Object}
 use Rattle.lrs_json.proofs.Views.{view-Object}
+use Rattle.lrs_json_reader.specs.Steps.{StepsOverCommaOr, comma_or}
 use Rattle.lrs_json_reader.specs.declared.cursor.Stop.{Stop}
 use Rattle.lrs_json_reader.specs.declared.cursor.Stop.TheVariants.{Memory}
 use Rattle.lrs_json_reader.proofs.Alike.{alike, alike_members, first_same, member_parts}
@@ -16,14 +17,14 @@ use Rattle.lrs_json_reader.proofs.Escapes.{same_quoted}
 use Rattle.lrs_json_reader.proofs.Rereads.{members_Ends, tail_same}
 use Rattle.lrs_json_reader.proofs.WrittenLemmas.{Fits-IsSpellable}
 use Rattle.lrs_json_written.specs.Fitting.{HaveReadable, names_in, names_of}
-use Rattle.lrs_json_written.specs.Reading.{GoesOn, NamedAt, NextMember, ReadsMember, ReadsMembers, ReadsTree, mark}
+use Rattle.lrs_json_written.specs.Reading.{ReadableNamedAt, ReadsNextMember, ReadsMember, ReadsMembers, ReadsTree}
 use Rattle.lrs_json_written.proofs.Fitted.{named_apart, named_fit}
 use Rattle.lrs_json_written.proofs.Readings.{goes_shorter, members_spelled, not_empty, nothing_reads, object_only}
 
 -- ---- a member
 
 -- the value stands behind the name and its colon
-pub value_at : (limit : ℕ) (m : List ℕ × Json) (k old colon value rest : List ℕ) → old ≡ quoted k ++ colon → colon ≡ (58 ∷ []) ++ value → NamedAt limit m old rest → (k ≡ m.0) × (value ≡ written m.1 ++ rest)
+pub value_at : (limit : ℕ) (m : List ℕ × Json) (k old colon value rest : List ℕ) → old ≡ quoted k ++ colon → colon ≡ (58 ∷ []) ++ value → ReadableNamedAt limit m old rest → (k ≡ m.0) × (value ≡ written m.1 ++ rest)
 value_at limit m k old colon value rest named colon_is at =
     let same = same_quoted k m.0 colon (58 ∷ (written m.1 ++ rest)) (sym named ∙ at.2) in
     (same.0, tail_same 58 value (written m.1 ++ rest) (sym colon_is ∙ same.1))
@@ -32,7 +33,7 @@ pub member_done : (limit : ℕ) (m : Member) (k old colon value new : List ℕ) 
 member_done limit m k old colon value new t seen utf8 named colon_is tree =
     let whole : old ≡ quoted k ++ 58 ∷ (written (view t) ++ new) = named ∙ ap (λ (z : List ℕ). quoted k ++ z) (colon_is ∙ ap (λ (z : List ℕ). 58 ∷ z) tree.found.1) in
     record {
-      found = subst (λ (n : List ℕ × Json). NamedAt limit n old new) (sym seen) (utf8, tree.found.0, whole);
+      found = subst (λ (n : List ℕ × Json). ReadableNamedAt limit n old new) (sym seen) (utf8, tree.found.0, whole);
       all = λ n rest at ends.
           let v = value_at limit n k old colon value rest named colon_is at in
           let a = tree.all n.1 rest at.1 v.1 ends in
@@ -41,10 +42,10 @@ member_done limit m k old colon value new t seen utf8 named colon_is tree =
 
 -- ---- members
 
-pub next_shorter : (limit : ℕ) (read new : List Member) (here next : List ℕ) (goes : Bool) → NextMember limit read here (Ok goes) new next → length next < length here
+pub next_shorter : (limit : ℕ) (read new : List Member) (here next : List ℕ) (goes : Bool) → ReadsNextMember limit read here (Ok goes) new next → length next < length here
 next_shorter limit read new here next goes item =
     let m = member_view item.found.0 in
-    goes_shorter 125 here (quoted m.0 ++ 58 ∷ written m.1) next goes (item.found.2.2 ∙ sym (append_assoc (quoted m.0) (58 ∷ written m.1) (mark 125 goes ∷ next)))
+    goes_shorter 125 here (quoted m.0 ++ 58 ∷ written m.1) next goes (item.found.2.2 ∙ sym (append_assoc (quoted m.0) (58 ∷ written m.1) (comma_or 125 goes ∷ next)))
 
 -- the members that were read, each with its comma
 abbrev pub heads : List (List ℕ × Json) → List ℕ
@@ -71,7 +72,7 @@ members_closed (k ∷ ms) m later here =
     ∙ ap (λ (z : List ℕ). comma_if later ++ (quoted k.0 ++ 58 ∷ (written k.1 ++ z))) (members_closed ms m true here)
     ∙ ap (λ (z : List ℕ). comma_if later ++ z) (sym (head_parts k (heads ms) (quoted m.0 ++ 58 ∷ (written m.1 ++ 125 ∷ here))))
 
-members_pushed : (goes : Bool) (ms : List (List ℕ × Json)) (m : List ℕ × Json) (here : List ℕ) → members_front goes (ms ++ m ∷ []) ++ here ≡ heads ms ++ (quoted m.0 ++ 58 ∷ (written m.1 ++ mark 125 goes ∷ here))
+members_pushed : (goes : Bool) (ms : List (List ℕ × Json)) (m : List ℕ × Json) (here : List ℕ) → members_front goes (ms ++ m ∷ []) ++ here ≡ heads ms ++ (quoted m.0 ++ 58 ∷ (written m.1 ++ comma_or 125 goes ∷ here))
 members_pushed true ms m here = heads_pushed ms m here
 members_pushed false ms m here = members_closed ms m false here
 
@@ -91,7 +92,7 @@ members_begun limit start mid here true e took =
 members_begun limit start mid here false e took =
     record { readable = tt; so_far = e ∙ ap (λ (z : List ℕ). 123 ∷ z) (sym took.0); some = λ so none rest h. took.1 rest (sym took.0 ∙ h) }
 
-pub members_next : (limit : ℕ) (start : List ℕ) (read new : List Member) (here next : List ℕ) (goes : Bool) → MembersSoFar limit start true read here → NextMember limit read here (Ok goes) new next → MembersSoFar limit start goes new next
+pub members_next : (limit : ℕ) (start : List ℕ) (read new : List Member) (here next : List ℕ) (goes : Bool) → MembersSoFar limit start true read here → ReadsNextMember limit read here (Ok goes) new next → MembersSoFar limit start goes new next
 members_next limit start read new here next goes so item =
     let m : List ℕ × Json = member_view item.found.0 in
     let ms = map member_view read in
@@ -104,11 +105,11 @@ members_next limit start read new here next goes so item =
       some = λ _ none rest h. absurd (not_empty read item.found.0 (sym item.found.1 ∙ none));
     }
 
-members_go : (ms : Members) (mid rest : List ℕ) {P : Type 0} → ((goes : Bool) (more : List ℕ) → mid ≡ mark 125 goes ∷ more → P) → mid ≡ members_text true ms ++ rest → P
+members_go : (ms : Members) (mid rest : List ℕ) {P : Type 0} → ((goes : Bool) (more : List ℕ) → mid ≡ comma_or 125 goes ∷ more → P) → mid ≡ members_text true ms ++ rest → P
 members_go no_members mid rest f e = f false rest e
 members_go (member k j ms) mid rest f e = f true ((quoted k ++ 58 ∷ written j ++ members_text true ms) ++ rest) e
 
-pub next_done : (limit : ℕ) (read new : List Member) (m : Member) (old mid next : List ℕ) (r : Result Bool Stop) → new ≡ read ++ m ∷ [] → ReadsMember limit old (Ok m) mid → GoesOn 125 mid r next → NextMember limit read old r new next
+pub next_done : (limit : ℕ) (read new : List Member) (m : Member) (old mid next : List ℕ) (r : Result Bool Stop) → new ≡ read ++ m ∷ [] → ReadsMember limit old (Ok m) mid → StepsOverCommaOr 125 mid r next → ReadsNextMember limit read old r new next
 next_done limit read new m old mid next (Ok goes) is named on =
     let n = member_view m in
     let at = named.found in
@@ -119,14 +120,14 @@ next_done limit read new m old mid next (Ok goes) is named on =
 next_done limit read new m old mid next (Err y) is named on =
     record { found = tt; all = λ n ms rest at. members_go ms mid rest (λ goes more e. on.all goes more e) (named.all n (members_text true ms ++ rest) at (members_Ends ms rest)).1 }
 
-pub next_fault : (limit : ℕ) (read : List Member) (old new : List ℕ) (r : Result Bool Stop) (y : Stop) → IsErrAnd r (λ e. e ≡ y) → ReadsMember limit old (Err y) new → NextMember limit read old r read new
+pub next_fault : (limit : ℕ) (read : List Member) (old new : List ℕ) (r : Result Bool Stop) (y : Stop) → IsErrAnd r (λ e. e ≡ y) → ReadsMember limit old (Err y) new → ReadsNextMember limit read old r read new
 next_fault limit read old new (Ok goes) y is named = absurd is
 next_fault limit read old new (Err z) y is named =
     record { found = tt; all = λ n ms rest at. is ∙ named.all n (members_text true ms ++ rest) at (members_Ends ms rest) }
 
 -- what stands behind the members that were read
 after_heads : (limit : ℕ) (read : List (List ℕ × Json)) (all : Members) (here rest : List ℕ) → HaveReadable limit (members_of read) → HaveReadable limit all → 44 ∷ (heads read ++ here) ≡ members_text true all ++ rest
-    → (m : List ℕ × Json) × (ms : Members) × NamedAt limit m here (members_text true ms ++ rest)
+    → (m : List ℕ × Json) × (ms : Members) × ReadableNamedAt limit m here (members_text true ms ++ rest)
 after_heads limit read no_members here rest ok whole e = let bad : ◌≡◌ {A = ℕ} 44 125 = first_same 44 125 (heads read ++ here) rest e in absurd (omega arith)
 after_heads limit [] (member k j ms) here rest ok whole e =
     ((k, j), ms, (whole.0, whole.1, tail_same 44 here (quoted k ++ 58 ∷ (written j ++ (members_text true ms ++ rest))) (e ∙ member_parts true k j ms rest)))
@@ -143,7 +144,7 @@ no_brace : (k rest more : List ℕ) → quoted k ++ rest ≡ 125 ∷ more → �
 no_brace k rest more e = let bad : ◌≡◌ {A = ℕ} 34 125 = cc e in absurd (omega arith)
 
 member_left : (limit : ℕ) (read : List (List ℕ × Json)) (all : Members) (here rest : List ℕ) → (read ≡ [] → (end : List ℕ) → here ≡ 125 ∷ end → ⊥) → HaveReadable limit (members_of read) → HaveReadable limit all
-    → heads read ++ here ≡ members_text false all ++ rest → (m : List ℕ × Json) × (ms : Members) × NamedAt limit m here (members_text true ms ++ rest)
+    → heads read ++ here ≡ members_text false all ++ rest → (m : List ℕ × Json) × (ms : Members) × ReadableNamedAt limit m here (members_text true ms ++ rest)
 member_left limit [] no_members here rest some ok whole e = absurd (some refl rest e)
 member_left limit (r ∷ read) no_members here rest some ok whole e = absurd (no_brace r.0 (58 ∷ (written r.1 ++ 44 ∷ (heads read ++ here))) rest (sym (head_parts r (heads read) here) ∙ e))
 member_left limit read (member k j ms) here rest some ok whole e =
@@ -153,7 +154,7 @@ no_views : (read : List Member) → map member_view read ≡ [] → read ≡ []
 no_views [] e = refl
 no_views (m ∷ read) e = cc e
 
-pub members_fault : (limit : ℕ) (start : List ℕ) (read new : List Member) (here next end : List ℕ) (r : Result (List Member) Stop) (y : Stop) → IsErrAnd r (λ e. e ≡ y) → MembersSoFar limit start true read here → NextMember limit read here (Err y) new next → ReadsMembers limit start r end
+pub members_fault : (limit : ℕ) (start : List ℕ) (read new : List Member) (here next end : List ℕ) (r : Result (List Member) Stop) (y : Stop) → IsErrAnd r (λ e. e ≡ y) → MembersSoFar limit start true read here → ReadsNextMember limit read here (Err y) new next → ReadsMembers limit start r end
 members_fault limit start read new here next end (Ok ms) y is so item = absurd is
 members_fault limit start read new here next end (Err z) y is so item =
     record {

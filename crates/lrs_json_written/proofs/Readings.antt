@@ -8,43 +8,34 @@ use Rattle.lrs_json.specs.Spellable.{AreSpellableElements, AreSpellableMembers}
 use Rattle.lrs_json.specs.View.{elements_of, view}
 use Rattle.lrs_json.specs.Written.{comma_if, elements_text, written}
 use Rattle.lrs_json.specs.declared.tree.Tree.{Tree, Null, Bool as Boolean, Number, Words, List as Many}
-use Rattle.lrs_json.proofs.Back.{same_tree}
+use Rattle.lrs_json.proofs.Back.{same_trees}
 use Rattle.lrs_json.proofs.Views.{view-Bool, view-List, view-Null, view-Number, view-Words}
 use Rattle.lrs_json_reader.specs.Grammar.{Value}
 use Rattle.lrs_json_reader.specs.Located as Located
-use Rattle.lrs_json_reader.specs.Located.{plain, plain_elements, plain_members}
-use Rattle.lrs_json_reader.specs.Steps.{Finds, Opens}
+use Rattle.lrs_json_reader.specs.Steps.{Finds, Opens, StepsOverCommaOr, comma_or}
 use Rattle.lrs_json_reader.specs.declared.cursor.Stop.{Stop}
 use Rattle.lrs_json_reader.specs.declared.cursor.Stop.TheVariants.{Memory}
 use Rattle.lrs_json_reader.proofs.Alike.{alike, alike_elements, element_parts, first_same}
 use Rattle.lrs_json_reader.proofs.Ends.{Value-Opens}
-use Rattle.lrs_json_reader.proofs.FirstBytes.{only_array, only_false, only_null, only_number, only_object, only_string, only_true, starts_at}
+use Rattle.lrs_json_reader.proofs.FirstBytes.{begins_array, begins_object, begins_string, first_is, kind, only_false, only_null, only_number, only_true}
 use Rattle.lrs_json_reader.proofs.Rereads.{elements_Ends, tail_same}
 use Rattle.lrs_json_reader.proofs.Values.{Starts, starts}
-use Rattle.lrs_json_reader.proofs.WrittenLemmas.{Fits-IsSpellable, locate, plain-locate, written-Value}
+use Rattle.lrs_json_reader.proofs.WrittenLemmas.{Fits-IsSpellable, locate, written-Value}
 use Rattle.lrs_json_written.specs.Fitting.{AreReadable, HaveReadable}
-use Rattle.lrs_json_written.specs.Reading.{ReadsTree, ReadsLeaf, ReadsWord, ReadsText, ReadsNumber, TextAt, NumeralAt, GoesOn, NextItem, ReadsItems, mark}
+use Rattle.lrs_json_written.specs.Reading.{ReadsTree, ReadsLeaf, ReadsWord, ReadsText, ReadsNumber, TextAt, NumeralInRangeAt, ReadsNextItem, ReadsItems}
 use Rattle.lrs_json_written.proofs.Fitted.{elements_apart, elements_fit}
 
 -- ---- the kind of a value, by its first byte
 
-pub first_is : (limit : ℕ) (k : Json) (old more rest : List ℕ) (b : ℕ) → IsReadable limit k → old ≡ b ∷ more → old ≡ written k ++ rest → Starts (locate k rest) b
-first_is limit k old more rest b ok is e = starts_at (locate k rest) old more rest b is (subst (λ (t : List ℕ). Value (locate k rest) t rest) (sym e) (written-Value k rest (Fits-IsSpellable k ok.0)))
-
-pub kind : (k : Json) (rest : List ℕ) (p : Located.Located) → locate k rest ≡ p → k ≡ plain p
-kind k rest p is = sym (plain-locate k rest) ∙ ap plain is
-
 array_only : (limit : ℕ) (old more : List ℕ) → old ≡ 91 ∷ more → (j : Json) (rest : List ℕ) → IsReadable limit j → old ≡ written j ++ rest → (js : Elements) × (j ≡ array js) × IsReadable limit (array js) × (old ≡ written (array js) ++ rest)
 array_only limit old more is j rest ok e =
-    let o = only_array (locate j rest) (first_is limit j old more rest 91 ok is e) in
-    let k : j ≡ array (plain_elements o.0) = kind j rest (Located.array o.0) o.1 in
-    (plain_elements o.0, k, subst (IsReadable limit) k ok, e ∙ ap (λ (i : Json). written i ++ rest) k)
+    let o = begins_array j rest (first_is j old more rest 91 (Fits-IsSpellable j ok.0) is e) in
+    (o.0, o.1, subst (IsReadable limit) o.1 ok, e ∙ ap (λ (i : Json). written i ++ rest) o.1)
 
 pub object_only : (limit : ℕ) (old more : List ℕ) → old ≡ 123 ∷ more → (j : Json) (rest : List ℕ) → IsReadable limit j → old ≡ written j ++ rest → (ms : Members) × (j ≡ object ms) × IsReadable limit (object ms) × (old ≡ written (object ms) ++ rest)
 object_only limit old more is j rest ok e =
-    let o = only_object (locate j rest) (first_is limit j old more rest 123 ok is e) in
-    let k : j ≡ object (plain_members o.0) = kind j rest (Located.object o.0) o.1 in
-    (plain_members o.0, k, subst (IsReadable limit) k ok, e ∙ ap (λ (i : Json). written i ++ rest) k)
+    let o = begins_object j rest (first_is j old more rest 123 (Fits-IsSpellable j ok.0) is e) in
+    (o.0, o.1, subst (IsReadable limit) o.1 ok, e ∙ ap (λ (i : Json). written i ++ rest) o.1)
 
 -- ---- values that hold no others
 
@@ -78,32 +69,31 @@ begins limit old j rest ok e = starts (locate j rest) old rest (subst (λ (t : L
 pub null_reads : (limit : ℕ) (old more new : List ℕ) (r : Result Tree Stop) → old ≡ 110 ∷ more → ReadsWord (codes "null") Null old r new → ReadsTree limit old r new
 null_reads limit old more new r is =
     leaf_reads {X = Unit {0}} (λ _ bytes rest. bytes ≡ codes "null" ++ rest) (λ _. Null) (λ _. null) limit old new r (λ _ rest at. (view-Null, (tt, omega arith), at))
-    (λ j rest ok e. let k = kind j rest Located.null (only_null (locate j rest) (first_is limit j old more rest 110 ok is e)) in (tt, k, e ∙ ap (λ (i : Json). written i ++ rest) k))
+    (λ j rest ok e. let k = kind j rest Located.null (only_null (locate j rest) (first_is j old more rest 110 (Fits-IsSpellable j ok.0) is e)) in (tt, k, e ∙ ap (λ (i : Json). written i ++ rest) k))
 
 pub true_reads : (limit : ℕ) (old more new : List ℕ) (r : Result Tree Stop) → old ≡ 116 ∷ more → ReadsWord (codes "true") (Boolean true) old r new → ReadsTree limit old r new
 true_reads limit old more new r is =
     leaf_reads {X = Unit {0}} (λ _ bytes rest. bytes ≡ codes "true" ++ rest) (λ _. Boolean true) (λ _. boolean true) limit old new r (λ _ rest at. (view-Bool true, (tt, omega arith), at))
-    (λ j rest ok e. let k = kind j rest (Located.boolean true) (only_true (locate j rest) (first_is limit j old more rest 116 ok is e)) in (tt, k, e ∙ ap (λ (i : Json). written i ++ rest) k))
+    (λ j rest ok e. let k = kind j rest (Located.boolean true) (only_true (locate j rest) (first_is j old more rest 116 (Fits-IsSpellable j ok.0) is e)) in (tt, k, e ∙ ap (λ (i : Json). written i ++ rest) k))
 
 pub false_reads : (limit : ℕ) (old more new : List ℕ) (r : Result Tree Stop) → old ≡ 102 ∷ more → ReadsWord (codes "false") (Boolean false) old r new → ReadsTree limit old r new
 false_reads limit old more new r is =
     leaf_reads {X = Unit {0}} (λ _ bytes rest. bytes ≡ codes "false" ++ rest) (λ _. Boolean false) (λ _. boolean false) limit old new r (λ _ rest at. (view-Bool false, (tt, omega arith), at))
-    (λ j rest ok e. let k = kind j rest (Located.boolean false) (only_false (locate j rest) (first_is limit j old more rest 102 ok is e)) in (tt, k, e ∙ ap (λ (i : Json). written i ++ rest) k))
+    (λ j rest ok e. let k = kind j rest (Located.boolean false) (only_false (locate j rest) (first_is j old more rest 102 (Fits-IsSpellable j ok.0) is e)) in (tt, k, e ∙ ap (λ (i : Json). written i ++ rest) k))
 
 pub text_reads : (limit : ℕ) (old more new : List ℕ) (r : Result Tree Stop) → old ≡ 34 ∷ more → ReadsText old r new → ReadsTree limit old r new
 text_reads limit old more new r is =
     leaf_reads TextAt Words string limit old new r (λ s rest at. (view-Words s, (at.0, omega arith), at.1))
     (λ j rest ok e.
-    let o = only_string (locate j rest) (first_is limit j old more rest 34 ok is e) in
-    let k : j ≡ string o.0 = kind j rest (Located.string o.0) o.1 in
-    let ok' : IsReadable limit (string o.0) = subst (IsReadable limit) k ok in
-    (o.0, k, (ok'.0, e ∙ ap (λ (i : Json). written i ++ rest) k)))
+    let o = begins_string j rest (first_is j old more rest 34 (Fits-IsSpellable j ok.0) is e) in
+    let ok' : IsReadable limit (string o.0) = subst (IsReadable limit) o.1 ok in
+    (o.0, o.1, (ok'.0, e ∙ ap (λ (i : Json). written i ++ rest) o.1)))
 
 pub number_reads : (limit b : ℕ) (old more new : List ℕ) (r : Result Tree Stop) → old ≡ b ∷ more → b ≢ 110 → b ≢ 116 → b ≢ 102 → b ≢ 34 → b ≢ 91 → b ≢ 123 → ReadsNumber old r new → ReadsTree limit old r new
 number_reads limit b old more new r is n t f q l o =
-    leaf_reads NumeralAt Number number limit old new r (λ s rest at. (view-Number s, ((at.0, at.1), omega arith), at.2))
+    leaf_reads NumeralInRangeAt Number number limit old new r (λ s rest at. (view-Number s, ((at.0, at.1), omega arith), at.2))
     (λ j rest ok e.
-    let only = only_number (locate j rest) b (first_is limit j old more rest b ok is e) n t f q l o in
+    let only = only_number (locate j rest) b (first_is j old more rest b (Fits-IsSpellable j ok.0) is e) n t f q l o in
     let k : j ≡ number only.0.1 = kind j rest (Located.number only.0.0 only.0.1) only.1 in
     let ok' : IsReadable limit (number only.0.1) = subst (IsReadable limit) k ok in
     (only.0.1, k, (ok'.0.0, ok'.0.1, e ∙ ap (λ (i : Json). written i ++ rest) k)))
@@ -120,10 +110,10 @@ members_spelled limit (member k j ms) ok = (ok.0, Fits-IsSpellable j ok.1.0, mem
 
 -- ---- arrays
 
-pub goes_shorter : (close : ℕ) (old front new : List ℕ) (goes : Bool) → old ≡ front ++ mark close goes ∷ new → length new < length old
-goes_shorter close old front new goes e = omega (arith, ap length e ∙ length-append front (mark close goes ∷ new))
+pub goes_shorter : (close : ℕ) (old front new : List ℕ) (goes : Bool) → old ≡ front ++ comma_or close goes ∷ new → length new < length old
+goes_shorter close old front new goes e = omega (arith, ap length e ∙ length-append front (comma_or close goes ∷ new))
 
-pub next_shorter : (limit : ℕ) (read new : List Tree) (here next : List ℕ) (goes : Bool) → NextItem limit read here (Ok goes) new next → length next < length here
+pub next_shorter : (limit : ℕ) (read new : List Tree) (here next : List ℕ) (goes : Bool) → ReadsNextItem limit read here (Ok goes) new next → length next < length here
 next_shorter limit read new here next goes item = goes_shorter 93 here (written (view item.found.0)) next goes item.found.3
 
 -- the items that were read, each with its comma
@@ -149,7 +139,7 @@ items_closed (k ∷ js) j later here =
     ∙ ap (λ (z : List ℕ). comma_if later ++ (written k ++ z)) (items_closed js j true here)
     ∙ ap (λ (z : List ℕ). comma_if later ++ z) (sym (head_parts k (heads js) (written j ++ 93 ∷ here)))
 
-items_pushed : (goes : Bool) (js : List Json) (j : Json) (here : List ℕ) → items_front goes (js ++ j ∷ []) ++ here ≡ heads js ++ (written j ++ mark 93 goes ∷ here)
+items_pushed : (goes : Bool) (js : List Json) (j : Json) (here : List ℕ) → items_front goes (js ++ j ∷ []) ++ here ≡ heads js ++ (written j ++ comma_or 93 goes ∷ here)
 items_pushed true js j here = heads_pushed js j here
 items_pushed false js j here = items_closed js j false here
 
@@ -173,7 +163,7 @@ items_begun limit start mid here true e took =
 items_begun limit start mid here false e took =
     record { readable = tt; so_far = e ∙ ap (λ (z : List ℕ). 91 ∷ z) (sym took.0); some = λ so none rest h. took.1 rest (sym took.0 ∙ h) }
 
-pub items_next : (limit : ℕ) (start : List ℕ) (read new : List Tree) (here next : List ℕ) (goes : Bool) → ItemsSoFar limit start true read here → NextItem limit read here (Ok goes) new next → ItemsSoFar limit start goes new next
+pub items_next : (limit : ℕ) (start : List ℕ) (read new : List Tree) (here next : List ℕ) (goes : Bool) → ItemsSoFar limit start true read here → ReadsNextItem limit read here (Ok goes) new next → ItemsSoFar limit start goes new next
 items_next limit start read new here next goes so item =
     let t : Tree = item.found.0 in
     let js = map view read in
@@ -186,17 +176,17 @@ items_next limit start read new here next goes so item =
       some = λ _ none rest h. absurd (not_empty read t (sym item.found.1 ∙ none));
     }
 
-elements_go : (js : Elements) (mid rest : List ℕ) {P : Type 0} → ((goes : Bool) (more : List ℕ) → mid ≡ mark 93 goes ∷ more → P) → mid ≡ elements_text true js ++ rest → P
+elements_go : (js : Elements) (mid rest : List ℕ) {P : Type 0} → ((goes : Bool) (more : List ℕ) → mid ≡ comma_or 93 goes ∷ more → P) → mid ≡ elements_text true js ++ rest → P
 elements_go no_elements mid rest f e = f false rest e
 elements_go (element j js) mid rest f e = f true ((written j ++ elements_text true js) ++ rest) e
 
-pub item_done : (limit : ℕ) (read new : List Tree) (t : Tree) (old mid next : List ℕ) (r : Result Bool Stop) → new ≡ read ++ t ∷ [] → ReadsTree limit old (Ok t) mid → GoesOn 93 mid r next → NextItem limit read old r new next
+pub item_done : (limit : ℕ) (read new : List Tree) (t : Tree) (old mid next : List ℕ) (r : Result Bool Stop) → new ≡ read ++ t ∷ [] → ReadsTree limit old (Ok t) mid → StepsOverCommaOr 93 mid r next → ReadsNextItem limit read old r new next
 item_done limit read new t old mid next (Ok goes) is tree on =
     record { found = (t, is, tree.found.0, tree.found.1 ∙ ap (λ (z : List ℕ). written (view t) ++ z) on.found); all = λ j js rest ok e. tt }
 item_done limit read new t old mid next (Err y) is tree on =
     record { found = tt; all = λ j js rest ok e. elements_go js mid rest (λ goes more at. on.all goes more at) (tree.all j (elements_text true js ++ rest) ok e (elements_Ends js rest)).1 }
 
-pub item_fault : (limit : ℕ) (read : List Tree) (old new : List ℕ) (r : Result Bool Stop) (y : Stop) → IsErrAnd r (λ e. e ≡ y) → ReadsTree limit old (Err y) new → NextItem limit read old r read new
+pub item_fault : (limit : ℕ) (read : List Tree) (old new : List ℕ) (r : Result Bool Stop) (y : Stop) → IsErrAnd r (λ e. e ≡ y) → ReadsTree limit old (Err y) new → ReadsNextItem limit read old r read new
 item_fault limit read old new (Ok goes) y is tree = absurd is
 item_fault limit read old new (Err z) y is tree =
     record { found = tt; all = λ j js rest ok e. is ∙ tree.all j (elements_text true js ++ rest) ok e (elements_Ends js rest) }
@@ -227,7 +217,7 @@ no_views : (read : List Tree) → map view read ≡ [] → read ≡ []
 no_views [] e = refl
 no_views (t ∷ read) e = cc e
 
-pub items_fault : (limit : ℕ) (start : List ℕ) (read new : List Tree) (here next end : List ℕ) (r : Result (List Tree) Stop) (y : Stop) → IsErrAnd r (λ e. e ≡ y) → ItemsSoFar limit start true read here → NextItem limit read here (Err y) new next → ReadsItems limit start r end
+pub items_fault : (limit : ℕ) (start : List ℕ) (read new : List Tree) (here next end : List ℕ) (r : Result (List Tree) Stop) (y : Stop) → IsErrAnd r (λ e. e ≡ y) → ItemsSoFar limit start true read here → ReadsNextItem limit read here (Err y) new next → ReadsItems limit start r end
 items_fault limit start read new here next end (Ok ts) y is so item = absurd is
 items_fault limit start read new here next end (Err z) y is so item =
     record {
@@ -291,15 +281,6 @@ each_found limit old new (Err y) found = tt
 pub all_readable : (limit : ℕ) (ts : List Tree) → AllByRecursion (λ t. IsReadable limit (view t)) ts → AreReadable limit (elements_of (map view ts))
 all_readable limit [] ok = tt
 all_readable limit (t ∷ ts) ok = (ok.0, all_readable limit ts ok.1)
-
-same_trees : (us ts : List Tree) → elements_of (map view us) ≡ elements_of (map view ts) → us ≡ ts
-same_trees [] [] e = refl
-same_trees [] (t ∷ ts) e = cc e
-same_trees (u ∷ us) [] e = cc e
-same_trees (u ∷ us) (t ∷ ts) e =
-    let first : view u ≡ view t = cc e in
-    let more : elements_of (map view us) ≡ elements_of (map view ts) = cc e in
-    cc (same_tree u t first, same_trees us ts more)
 
 pub trees_found : (new rest : List ℕ) (ts : List Tree) (r : Result (List Tree) Stop) → Finds r (λ us. (elements_of (map view us) ≡ elements_of (map view ts)) × (new ≡ rest)) → Finds r (λ us. (us ≡ ts) × (new ≡ rest))
 trees_found new rest ts (Ok us) found = (same_trees us ts found.0, found.1)

@@ -1,5 +1,5 @@
 -- What the functions that read a written form say of its parts.
-use Rattle.std.specs.Prelude.{◌≡◌, ℕ, List, [], ◌∷◌, ◌++◌, map, Bool, true, if◌then◌else◌, IfOk, IsTrue, IsUtf8, Result}
+use Rattle.std.specs.Prelude.{◌≡◌, ℕ, List, [], ◌∷◌, ◌++◌, map, Bool, true, IfOk, IsTrue, IsUtf8, Result}
 use Rattle.lrs_decimal.specs.Numbers.{Ends, IsNumber}
 use Rattle.lrs_decimal.specs.Range.{is_in_range}
 use Rattle.lrs_json.specs.Fits.{IsReadable}
@@ -8,7 +8,7 @@ use Rattle.lrs_json.specs.View.{elements_of, member_view, members_of, view}
 use Rattle.lrs_json.specs.Written.{elements_text, members_text, quoted, written}
 use Rattle.lrs_json.specs.declared.tree.Member.{Member}
 use Rattle.lrs_json.specs.declared.tree.Tree.{Tree, Number, Words}
-use Rattle.lrs_json_reader.specs.Steps.{Finds}
+use Rattle.lrs_json_reader.specs.Steps.{Finds, comma_or}
 use Rattle.lrs_json_reader.specs.declared.cursor.Stop.{Stop}
 use Rattle.lrs_json_written.specs.Fitting.{AreReadable, HaveReadable}
 
@@ -34,25 +34,17 @@ TextAt s bytes rest = IsUtf8 s × (bytes ≡ quoted s ++ rest)
 abbrev pub ReadsText : List ℕ → Result Tree Stop → List ℕ → Type 0
 ReadsText old r new = ReadsLeaf TextAt Words old r new
 
-abbrev pub NumeralAt : List ℕ → List ℕ → List ℕ → Type 0
-NumeralAt s bytes rest = IsNumber s × IsTrue (is_in_range s) × (bytes ≡ s ++ rest)
+abbrev pub NumeralInRangeAt : List ℕ → List ℕ → List ℕ → Type 0
+NumeralInRangeAt s bytes rest = IsNumber s × IsTrue (is_in_range s) × (bytes ≡ s ++ rest)
 
 abbrev pub ReadsNumber : List ℕ → Result Tree Stop → List ℕ → Type 0
-ReadsNumber old r new = ReadsLeaf NumeralAt Number old r new
-
--- what follows an item: a comma, or the closing bracket
-abbrev pub mark : ℕ → Bool → ℕ
-mark close goes = if goes then 44 else close
-
-pub record GoesOn (close : ℕ) (old : List ℕ) (r : Result Bool Stop) (new : List ℕ) : Type 0 where
-  pub found : IfOk r (λ goes. old ≡ mark close goes ∷ new)
-  pub all : (goes : Bool) (rest : List ℕ) → old ≡ mark close goes ∷ rest → Finds r (λ _. Unit {0})
+ReadsNumber old r new = ReadsLeaf NumeralInRangeAt Number old r new
 
 -- One item more was read, and what follows it.
-pub record NextItem (limit : ℕ) (read : List Tree) (old : List ℕ) (r : Result Bool Stop) (reread : List Tree)
+pub record ReadsNextItem (limit : ℕ) (read : List Tree) (old : List ℕ) (r : Result Bool Stop) (reread : List Tree)
     (new : List ℕ) : Type 0 where
   pub found : IfOk r (λ goes. (t : Tree) × (reread ≡ read ++ t ∷ []) × IsReadable limit (view t)
-      × (old ≡ written (view t) ++ mark 93 goes ∷ new))
+      × (old ≡ written (view t) ++ comma_or 93 goes ∷ new))
   pub all : (j : Json) (js : Elements) (rest : List ℕ) → IsReadable limit j
       → old ≡ written j ++ (elements_text true js ++ rest) → Finds r (λ _. Unit {0})
 
@@ -64,20 +56,21 @@ pub record ReadsItems (limit : ℕ) (old : List ℕ) (r : Result (List Tree) Sto
       → Finds r (λ ts. (elements_of (map view ts) ≡ js) × (new ≡ rest))
 
 -- a name, a colon and a value
-abbrev pub NamedAt : ℕ → List ℕ × Json → List ℕ → List ℕ → Type 0
-NamedAt limit m bytes rest = IsUtf8 m.0 × IsReadable limit m.1 × (bytes ≡ quoted m.0 ++ 58 ∷ (written m.1 ++ rest))
+abbrev pub ReadableNamedAt : ℕ → List ℕ × Json → List ℕ → List ℕ → Type 0
+ReadableNamedAt limit m bytes rest =
+    IsUtf8 m.0 × IsReadable limit m.1 × (bytes ≡ quoted m.0 ++ 58 ∷ (written m.1 ++ rest))
 
 pub record ReadsMember (limit : ℕ) (old : List ℕ) (r : Result Member Stop) (new : List ℕ) : Type 0 where
-  pub found : IfOk r (λ m. NamedAt limit (member_view m) old new)
-  pub all : (m : List ℕ × Json) (rest : List ℕ) → NamedAt limit m old rest → Ends rest
+  pub found : IfOk r (λ m. ReadableNamedAt limit (member_view m) old new)
+  pub all : (m : List ℕ × Json) (rest : List ℕ) → ReadableNamedAt limit m old rest → Ends rest
       → Finds r (λ n. (member_view n ≡ m) × (new ≡ rest))
 
-pub record NextMember (limit : ℕ) (read : List Member) (old : List ℕ) (r : Result Bool Stop) (reread : List Member)
+pub record ReadsNextMember (limit : ℕ) (read : List Member) (old : List ℕ) (r : Result Bool Stop) (reread : List Member)
     (new : List ℕ) : Type 0 where
   pub found : IfOk r (λ goes. (m : Member) × (reread ≡ read ++ m ∷ [])
-      × NamedAt limit (member_view m) old (mark 125 goes ∷ new))
-  pub all : (m : List ℕ × Json) (ms : Members) (rest : List ℕ) → NamedAt limit m old (members_text true ms ++ rest)
-      → Finds r (λ _. Unit {0})
+      × ReadableNamedAt limit (member_view m) old (comma_or 125 goes ∷ new))
+  pub all : (m : List ℕ × Json) (ms : Members) (rest : List ℕ)
+      → ReadableNamedAt limit m old (members_text true ms ++ rest) → Finds r (λ _. Unit {0})
 
 -- members whose values are readable at the limit, whatever their names are
 pub record ReadsMembers (limit : ℕ) (old : List ℕ) (r : Result (List Member) Stop) (new : List ℕ) : Type 0 where

@@ -7,7 +7,7 @@ ghost use Rattle.lrs_json.specs.View.{elements_of, view};
 ghost use Rattle.lrs_json.specs.Written.{written};
 ghost use Rattle.lrs_json.specs.declared.tree.Tree.{Tree as SpecTree};
 ghost use Rattle.lrs_json_reader.specs.Steps.{Finds};
-ghost use Rattle.lrs_json_written.specs.Reading.{GoesOn, NextItem, NextMember, ReadsItems, ReadsMember, ReadsMembers, ReadsNumber, ReadsText, ReadsTree, ReadsWord};
+ghost use Rattle.lrs_json_written.specs.Reading.{ReadsNextItem, ReadsNextMember, ReadsItems, ReadsMember, ReadsMembers, ReadsNumber, ReadsText, ReadsTree, ReadsWord};
 
 use crate::names::have_distinct_names;
 use crate::texts::read_text;
@@ -73,10 +73,10 @@ fn items(cursor: &mut Cursor<'_>, depth: u32) -> Result<Items<Tree>, Stop>
 // One item more, and what follows it. Tells whether another comes.
 #[cycle(reading)]
 fn next_item(cursor: &mut Cursor<'_>, depth: u32, items: &mut Items<Tree>) -> Result<bool, Stop>
-    ensures { NextItem depth items.old cursor.old result items.new cursor.new }
+    ensures { ReadsNextItem depth items.old cursor.old result items.new cursor.new }
 {
     items.push(value(cursor, depth)?)?;
-    goes_on(b']', cursor)
+    cursor.comma_or(b']')
 }
 
 #[cycle(reading)]
@@ -115,10 +115,10 @@ fn next_member(
     depth: u32,
     members: &mut Items<Member>,
 ) -> Result<bool, Stop>
-    ensures { NextMember depth members.old cursor.old result members.new cursor.new }
+    ensures { ReadsNextMember depth members.old cursor.old result members.new cursor.new }
 {
     members.push(member(cursor, depth)?)?;
-    goes_on(b'}', cursor)
+    cursor.comma_or(b'}')
 }
 
 #[cycle(reading)]
@@ -129,17 +129,6 @@ fn member(cursor: &mut Cursor<'_>, depth: u32) -> Result<Member, Stop>
     cursor.word(b":")?;
     let value = value(cursor, depth)?;
     Ok(Member { name, value })
-}
-
-// Steps over the comma before another item, or over the closing bracket.
-fn goes_on(close: u8, cursor: &mut Cursor<'_>) -> Result<bool, Stop>
-    ensures { GoesOn close cursor.old result cursor.new }
-{
-    if cursor.take(b",") {
-        return Ok(true);
-    }
-    cursor.word(&[close])?;
-    Ok(false)
 }
 
 // A value that holds no others.

@@ -9,7 +9,7 @@ use Rattle.lrs_command.specs.declared.who.Who.TheVariants as who
 use Rattle.lrs_history.specs.Effects.{effect, effect_of, new_by, with_owed}
 use Rattle.lrs_history.specs.History.{ComesNext, state, state_from, step}
 use Rattle.lrs_history.specs.Occasions.{Occasion, occasion}
-use Rattle.lrs_history.specs.Refusals.{bad_form, bad_role, barred, broken_by, conflict, forbidden, missing, unmergeable}
+use Rattle.lrs_history.specs.Refusals.{bad_form, barred_document, barred, broken_by, conflict, forbidden, missing, unmergeable}
 use Rattle.lrs_history.specs.Sessions.{is_abandoned}
 use Rattle.lrs_json.specs.Json.{Json}
 use Rattle.lrs_json.specs.View.{view}
@@ -140,7 +140,7 @@ silent_next limit [] e next gone = absurd (cc gone.gone)
 silent_next limit (first ∷ more) e next gone =
     let st : State = state (first ∷ more) in
     let at : Occasion = occasion st e in
-    let reasons = no_reason (barred (write_area e.write) at.by ∷ bad_form e.write ∷ bad_role st at.by e.write ∷ missing st e.write ∷ unmergeable st e.write ∷ conflict st at e.write ∷ [])
+    let reasons = no_reason (barred (write_area e.write) at.by ∷ bad_form e.write ∷ barred_document st at.by e.write ∷ missing st e.write ∷ unmergeable st e.write ∷ conflict st at e.write ∷ [])
     (accepted limit (first ∷ more) e next).free in
     ap (λ (su : State). su.statements) (after_one (first ∷ more) e) ∙ silent st at gone e.write reasons.0 reasons.1.1.1.1.1.0
 

@@ -5,12 +5,15 @@ use Rattle.std.specs.List.{list_any}
 use Rattle.std.specs.Option.{option_map_or}
 use Rattle.std.specs.Str.{bytes_eq}
 use Rattle.std.specs.Cmp.Lexicographic.{same_text}
+use Rattle.std.specs.Cmp.{first_so, second_so}
 use Rattle.std.proofs.lemmas.List.Folds.{list_any-append}
+use Rattle.std.proofs.lemmas.Bool.{and_from}
 use Rattle.cmi5_course.specs.declared.launch.Launch.{Launch}
 use Rattle.cmi5_launch.specs.Names.{completed, move_on_category, passed}
-use Rattle.cmi5_session.specs.Own.{is_cmi5_defined}
+use Rattle.cmi5_session.specs.Counting.{counts}
+use Rattle.cmi5_session.specs.Own.{is_cmi5_defined, says}
 use Rattle.cmi5_session.specs.Rules.{begins_again, broken_by_values, broken_defined, broken_rule, is_normal, tells_result, verb_named}
-use Rattle.cmi5_session.specs.Views.{SeenSession, counts, counts_still, has_counting, view_of}
+use Rattle.cmi5_session.specs.Views.{SeenSession, counts_still, has_counting, view_of}
 use Rattle.lrs_history.specs.Effects.{new_by}
 use Rattle.lrs_history.specs.Occasions.{Occasion}
 use Rattle.lrs_history.specs.Refusals.{forbidden}
@@ -19,9 +22,8 @@ use Rattle.lrs_json.specs.Json.{Json}
 use Rattle.lrs_json.specs.View.{view}
 use Rattle.lrs_laws.proofs.Again.{no_reason}
 use Rattle.lrs_laws.proofs.DeskStatements.{IsOfDesk, other_verb, own_verbs}
-use Rattle.lrs_laws.proofs.Keepers.{add_each-append, left_false, or_false, right_false}
+use Rattle.lrs_laws.proofs.Keepers.{left_false, or_false, right_false}
 use Rattle.lrs_laws.proofs.Lists.{each_weaker}
-use Rattle.lrs_laws.proofs.NewIds.{and_left, and_right, both_true}
 use Rattle.lrs_laws.proofs.Permitted.{broken_as, permitted, spoken, when_none}
 use Rattle.lrs_laws.proofs.Walking.{KeptByDesk, KeptByWrites, NonePass, SpeaksIn, Steps, by_speaker, its_new, its_rule, none_pass, over_legal, undefined_outside}
 use Rattle.lrs_laws.specs.Speaking.{ResultsCountOnce, count_once, counts_again}
@@ -29,6 +31,7 @@ use Rattle.lrs_names.specs.Members.{is_one_of}
 use Rattle.lrs_state.specs.State.{State}
 use Rattle.xapi_format.specs.declared.authority.Authority.TheVariants.{Session}
 use Rattle.xapi_index.specs.Batches.{held_of}
+use Rattle.xapi_index.proofs.Adding.{add_each-append}
 use Rattle.xapi_statement.specs.Statements.{add, add_each, is_held, is_target, is_that_id, voids}
 use Rattle.xapi_rules.specs.Rules.{is_voiding}
 use Rattle.xapi_statement.specs.Statement.{activity_of, has_context_activity, registration_of, target_of, verb_of}
@@ -42,16 +45,16 @@ CountsOnce launch verb statements = count_once launch verb [] statements ≡ tru
 once_push : (launch : Launch) (verb : List ℕ) (before ss : List StoredStatement) (s : StoredStatement) → count_once launch verb before ss ≡ true → counts_again launch verb (before ++ ss) s ≡ false
     → count_once launch verb before (ss ++ s ∷ []) ≡ true
 once_push launch verb before [] s once new =
-    both_true (not (counts_again launch verb before s)) true (ap (λ b. not b) (sym (ap (λ l. counts_again launch verb l s) (append-nil before)) ∙ new)) refl
+    and_from (not (counts_again launch verb before s)) true (ap (λ b. not b) (sym (ap (λ l. counts_again launch verb l s) (append-nil before)) ∙ new)) refl
 once_push launch verb before (x ∷ ss) s once new =
-    both_true (not (counts_again launch verb before x)) (count_once launch verb (before ++ x ∷ []) (ss ++ s ∷ []))
-    (and_left (not (counts_again launch verb before x)) (count_once launch verb (before ++ x ∷ []) ss) once)
-    (once_push launch verb (before ++ x ∷ []) ss s (and_right (not (counts_again launch verb before x)) (count_once launch verb (before ++ x ∷ []) ss) once)
+    and_from (not (counts_again launch verb before x)) (count_once launch verb (before ++ x ∷ []) (ss ++ s ∷ []))
+    (first_so (not (counts_again launch verb before x)) (count_once launch verb (before ++ x ∷ []) ss) once)
+    (once_push launch verb (before ++ x ∷ []) ss s (second_so (not (counts_again launch verb before x)) (count_once launch verb (before ++ x ∷ []) ss) once)
     (ap (λ l. counts_again launch verb l s) (append_assoc before (x ∷ []) ss) ∙ new))
 
 -- none of these counts
 abbrev NoneCounts : Launch → List ℕ → List StoredStatement → Type 0
-NoneCounts launch verb statements = NonePass (counts launch verb) statements
+NoneCounts launch verb statements = NonePass (counts launch.registration launch.activity verb) statements
 
 once_each : (launch : Launch) (verb : List ℕ) (held xs : List StoredStatement) → NoneCounts launch verb xs → CountsOnce launch verb held → CountsOnce launch verb (add_each held xs)
 once_each launch verb held [] others once = once
@@ -96,7 +99,7 @@ same_tests p q same (x ∷ xs) = ap (λ b. b || list_any p xs) (same x) ∙ ap (
 none_still : (launch : Launch) (verb : List ℕ) (old new : List StoredStatement) → Fewer old new → has_counting launch verb old ≡ false → has_counting launch verb new ≡ false
 none_still launch verb old new fewer none =
     same_tests (counts_still launch verb new) (counts_still launch verb old)
-    (λ x. ap (λ b. counts launch verb (view x.received) && not (not (is_voiding (view x.received)) && b)) (fewer.targets x.id)) new
+    (λ x. ap (λ b. counts launch.registration launch.activity verb (view x.received) && not (not (is_voiding (view x.received)) && b)) (fewer.targets x.id)) new
     ∙ fewer.none (counts_still launch verb old) none
 
 -- ---- what the rules permit
@@ -159,29 +162,30 @@ same_id a b (Some id) here there = sym (same_text id a (sym here)) ∙ same_text
 abbrev counting_in : List ℕ → List ℕ → List ℕ → List StoredStatement → Bool
 counting_in registration activity id ss =
     list_any (λ (s : StoredStatement).
-    (bytes_eq (verb_of (view s.received)) id && is_that_id registration (registration_of (view s.received)) && is_that_id activity (activity_of (view s.received)) && is_cmi5_defined (view s.received))
+    counts registration activity id (view s.received)
     && not (not (is_voiding (view s.received)) && is_target s.id ss)) ss
 
 same_counting : (launch l : Launch) (id : List ℕ) (ss : List StoredStatement) → launch.registration ≡ l.registration → launch.activity ≡ l.activity → has_counting launch id ss ≡ has_counting l id ss
 same_counting launch l id ss registration activity = ap (λ r. counting_in r launch.activity id ss) registration ∙ ap (λ a. counting_in l.registration a id ss) activity
 
 -- what counts is permitted where none counts still
-counts_first : (id : List ℕ) → IsResult id → (launch l : Launch) (before : List StoredStatement) (j : Json) → broken_rule (view_of l true false before) j ≡ None → counts launch id j ≡ true
+counts_first : (id : List ℕ) → IsResult id → (launch l : Launch) (before : List StoredStatement) (j : Json) → broken_rule (view_of l true false before) j ≡ None → counts launch.registration launch.activity id j ≡ true
     → has_counting launch id before ≡ false
 counts_first id result launch l before j free is =
     let v : SeenSession = view_of l true false before in
     let is_verb : Bool = bytes_eq (verb_of j) id in
     let registered : Bool = is_that_id launch.registration (registration_of j) in
     let about : Bool = is_that_id launch.activity (activity_of j) in
-    let unit_too : is_verb && registered && about ≡ true = and_left (is_verb && registered && about) (is_cmi5_defined j) is in
-    let verb_too : is_verb && registered ≡ true = and_left (is_verb && registered) about unit_too in
-    let defined : is_cmi5_defined j ≡ true = and_right (is_verb && registered && about) (is_cmi5_defined j) is in
-    let same : verb_of j ≡ id = same_text (verb_of j) id (sym (and_left is_verb registered verb_too)) in
+    let said : Bool = says id j in
+    let registered_too : said && registered ≡ true = first_so (said && registered) about is in
+    let said_so : said ≡ true = first_so said registered registered_too in
+    let defined : is_cmi5_defined j ≡ true = second_so is_verb (is_cmi5_defined j) said_so in
+    let same : verb_of j ≡ id = same_text (verb_of j) id (sym (first_so is_verb (is_cmi5_defined j) said_so)) in
     let asked = permitted v j free in
     let as_verb : broken_defined v (verb_named id) j ≡ None =
     sym (ap (λ b. if b then broken_defined v (verb_named (verb_of j)) j else None) defined ∙ ap (λ x. broken_defined v (verb_named x) j) same) ∙ asked.as_defined in
-    same_counting launch l id before (same_id launch.registration l.registration (registration_of j) (and_right is_verb registered verb_too) asked.registered)
-    (same_id launch.activity l.activity (activity_of j) (and_right (is_verb && registered) about unit_too) (result.about v j as_verb))
+    same_counting launch l id before (same_id launch.registration l.registration (registration_of j) (second_so said registered registered_too) asked.registered)
+    (same_id launch.activity l.activity (activity_of j) (second_so (said && registered) about is) (result.about v j as_verb))
     ∙ result.first l before j as_verb
 
 -- ---- what a session says
@@ -210,13 +214,13 @@ counted_next id result launch st at l speaks more n free so_far =
     voids_none : is_voiding (view n.tree) ≡ false
     voids_none = (permitted (view_of l true false before) (view n.tree) asked).voids_none
 
-    new : (b : Bool) → counts launch id (view n.tree) ≡ b → b && has_counting launch id now ≡ false
+    new : (b : Bool) → counts launch.registration launch.activity id (view n.tree) ≡ b → b && has_counting launch id now ≡ false
     new true is = none_still launch id before now so_far.0 (counts_first id result launch l before (view n.tree) asked is)
     new false is = refl
 
     by_again : (b : Bool) → Fewer (before ++ x ∷ []) (if b then now else now ++ x ∷ []) × CountsOnce launch id (if b then now else now ++ x ∷ [])
     by_again true = (fewer_skip before now x voids_none so_far.0, so_far.1)
-    by_again false = (fewer_push before now x so_far.0, once_push launch id [] now x so_far.1 (new (counts launch id (view n.tree)) refl))
+    by_again false = (fewer_push before now x so_far.0, once_push launch id [] now x so_far.1 (new (counts launch.registration launch.activity id (view n.tree)) refl))
 
     by_held : (b : Bool) → Counted st launch id (more ++ (if b then [] else x ∷ []))
     by_held true = subst (Counted st launch id) (sym (append-nil more)) so_far
@@ -234,10 +238,10 @@ and_false false = refl
 none_next : (launch : Launch) (id : List ℕ) (st : State) (at : Occasion) → ((before : List StoredStatement) (j : Json) → forbidden st at.by before j ≡ None → is_cmi5_defined j ≡ false)
     → Steps st at (NoneCounts launch id)
 none_next launch id st at undefined =
-    none_pass (counts launch id) st at
+    none_pass (counts launch.registration launch.activity id) st at
     (λ before j free.
-    let matches : Bool = bytes_eq (verb_of j) id && is_that_id launch.registration (registration_of j) && is_that_id launch.activity (activity_of j) in
-    ap (λ b. matches && b) (undefined before j free) ∙ and_false matches)
+    let is_verb : Bool = bytes_eq (verb_of j) id in
+    ap (λ b. b && is_that_id launch.registration (registration_of j) && is_that_id launch.activity (activity_of j)) (ap (λ b. is_verb && b) (undefined before j free) ∙ and_false is_verb))
 
 -- ---- the law
 
@@ -252,14 +256,14 @@ kept_by_writes id result launch st at ns met once =
 
 -- what the store says of its own has other verbs
 kept_by_desk : (id : List ℕ) → IsResult id → (launch : Launch) → KeptByDesk own_verbs (CountsOnce launch id)
-kept_by_desk id result launch held ss each once = once_each launch id held ss (each_weaker (IsOfDesk own_verbs) (λ (s : StoredStatement). counts launch id (view s.received) ≡ false) other ss each) once
+kept_by_desk id result launch held ss each once = once_each launch id held ss (each_weaker (IsOfDesk own_verbs) (λ (s : StoredStatement). counts launch.registration launch.activity id (view s.received) ≡ false) other ss each) once
   where
-    other : (s : StoredStatement) → IsOfDesk own_verbs s → counts launch id (view s.received) ≡ false
+    other : (s : StoredStatement) → IsOfDesk own_verbs s → counts launch.registration launch.activity id (view s.received) ≡ false
     other s is =
         let j : Json = view s.received in
         let registered : Bool = is_that_id launch.registration (registration_of j) in
         let about : Bool = is_that_id launch.activity (activity_of j) in
-        ap (λ b. b && registered && about && is_cmi5_defined j) (other_verb own_verbs s id is result.other)
+        ap (λ b. b && is_cmi5_defined j && registered && about) (other_verb own_verbs s id is result.other)
 
 pub results_count_once : ResultsCountOnce
 results_count_once limit h launch legal = (

@@ -4,19 +4,20 @@ use Rattle.std.specs.Prelude.{count_by, filter, flat_map, if◌then◌else◌, i
 use Rattle.std.specs.List.{AllByRecursion, list_all}
 use Rattle.std.specs.Option.{option_map_or}
 use Rattle.std.specs.Str.{bytes_eq}
-use Rattle.std.proofs.lemmas.Bool.{false≢true, leb-true}
+use Rattle.std.specs.Cmp.{first_so, second_so}
+use Rattle.std.proofs.lemmas.Bool.{false≢true, leb-true, or_cases}
 use Rattle.std.proofs.lemmas.List.{length-map}
 use Rattle.std.proofs.lemmas.List.Sums.{length-filter}
-use Rattle.cmi5_course.proofs.Unbroken.{form_unbroken, is_met, more_unbroken, nodes_unbroken, one_of}
+use Rattle.cmi5_course.proofs.Unbroken.{form_unbroken, more_unbroken, nodes_unbroken}
 use Rattle.cmi5_course.specs.Courses.{Course, course_key, course_of, node_of, nodes_of}
 use Rattle.cmi5_course.specs.SpelledNodes.{SpelledNode, nodes_from, nodes_in, nodes_of_children, nodes_of_items, nodes_under, spelled_node}
 use Rattle.cmi5_course.specs.Rules.{broken_rule, children_faults, content_faults, course_faults, form_faults, has_some_item, has_title, have_distinct_ids, id_faults, is_block, is_course, is_node, is_of_kind, is_unit, is_unit_node, is_within_limits, launch_faults, node_faults, nodes_faults, shared_faults, title_faults, unit_members}
-use Rattle.lrs_agents.proofs.AgentLemmas.{none_left, none_right}
+use Rattle.lrs_agents.proofs.AgentLemmas.{is_met, none_left, none_right}
 use Rattle.lrs_history.specs.DeskEffects.{new_course}
 use Rattle.lrs_history.specs.Effects.{effect}
 use Rattle.lrs_history.specs.History.{ComesNext, founds, is_operator, is_zero, state}
 use Rattle.lrs_history.specs.Occasions.{Occasion, occasion}
-use Rattle.lrs_history.specs.Refusals.{bad_form, bad_role, barred, conflict, missing, unmergeable}
+use Rattle.lrs_history.specs.Refusals.{bad_form, barred_document, barred, conflict, missing, unmergeable}
 use Rattle.lrs_json.specs.Find.{find, find_member}
 use Rattle.lrs_json.specs.Json.{Json, null, boolean, number, string, array, object, Elements, no_elements, element, Members, no_members, member}
 use Rattle.lrs_json.specs.View.{view}
@@ -27,7 +28,6 @@ use Rattle.lrs_laws.proofs.Counting.{many, many-append}
 use Rattle.lrs_laws.proofs.CourseLaws.{MovesCourses, moves_courses}
 use Rattle.lrs_laws.proofs.Launched.{after_one}
 use Rattle.lrs_laws.proofs.Lists.{each_front, each_push}
-use Rattle.lrs_laws.proofs.NewIds.{and_left, and_right}
 use Rattle.lrs_names.specs.Members.{faults_of_member, has_member, has_member_that, has_only}
 use Rattle.lrs_names.specs.Rules.{least, unless}
 use Rattle.lrs_state.specs.Courses.{course_under, courses_after}
@@ -52,24 +52,24 @@ record Stands (node : SpelledNode) : Type 0 where
 
 course_holds : (j : Json) → is_course j ≡ true → has_member (codes "children") j ≡ true
 unfolding is_course
-course_holds j is = and_right (has_only (codes "id" ∷ codes "title" ∷ codes "description" ∷ codes "children" ∷ []) j && has_title j) (has_member (codes "children") j) is
+course_holds j is = second_so (has_only (codes "id" ∷ codes "title" ∷ codes "description" ∷ codes "children" ∷ []) j && has_title j) (has_member (codes "children") j) is
 
 block_holds : (j : Json) → is_block j ≡ true → has_member (codes "children") j ≡ true
 unfolding is_block
 block_holds j is =
-    and_right (is_of_kind (codes "block") j && has_only (codes "kind" ∷ codes "id" ∷ codes "title" ∷ codes "description" ∷ codes "children" ∷ []) j && has_title j) (has_member (codes "children") j) is
+    second_so (is_of_kind (codes "block") j && has_only (codes "kind" ∷ codes "id" ∷ codes "title" ∷ codes "description" ∷ codes "children" ∷ []) j && has_title j) (has_member (codes "children") j) is
 
 unit_kind : (j : Json) → is_unit j ≡ true → is_of_kind (codes "unit") j ≡ true
 unfolding is_unit
 unit_kind j is =
-    and_left (is_of_kind (codes "unit") j) (has_only unit_members j) (and_left (is_of_kind (codes "unit") j && has_only unit_members j) (has_title j) (and_left
+    first_so (is_of_kind (codes "unit") j) (has_only unit_members j) (first_so (is_of_kind (codes "unit") j && has_only unit_members j) (has_title j) (first_so
     (is_of_kind (codes "unit") j && has_only unit_members j && has_title j) (has_member (codes "url") j) is))
 
 form_holds : (j : Json) (parent : Option ℕ) → least (if is_none parent then unless (is_course j) 1 else unless (is_node j) 2) ≡ None → is_of_kind (codes "unit") j ≡ false
     → has_member (codes "children") j ≡ true
 form_holds j None none other = course_holds j (is_met (is_course j) 1 none)
 form_holds j (Some p) none other =
-    elim (one_of (is_block j) (is_unit j) (is_met (is_node j) 2 none)) [ inl block ↦ block_holds j block | inr unit ↦ absurd (false≢true (sym other ∙ unit_kind j unit)) ]
+    elim (or_cases (is_block j) (is_unit j) (is_met (is_node j) 2 none)) [ inl block ↦ block_holds j block | inr unit ↦ absurd (false≢true (sym other ∙ unit_kind j unit)) ]
 
 children_unbroken : (j : Json) → least (shared_faults j) ≡ None → least (faults_of_member (codes "children") children_faults j) ≡ None
 unfolding shared_faults
@@ -99,8 +99,8 @@ all_stand [] none low = tt
 all_stand (node ∷ nodes) none low =
     let both = more_unbroken node nodes none in
     let deep : Bool = list_all (λ (n : SpelledNode). nat_le n.depth 16) nodes in (
-      node_stands node both.0 (and_left (nat_le node.depth 16) deep low),
-      all_stand nodes both.1 (and_right (nat_le node.depth 16) deep low),
+      node_stands node both.0 (first_so (nat_le node.depth 16) deep low),
+      all_stand nodes both.1 (second_so (nat_le node.depth 16) deep low),
     )
 
 -- ---- how many there are
@@ -232,10 +232,10 @@ few_nodes j none =
     let all : List SpelledNode = nodes_in j in
     let deep : Bool = list_all (λ (node : SpelledNode). nat_le node.depth 16) all in
     let limits : nat_le (count_by is_unit_node all) 1000 && deep ≡ true = within_limits j none in
-    let units : count_by is_unit_node all ≤ 1000 = leb-true (count_by is_unit_node all) 1000 (and_left (nat_le (count_by is_unit_node all) 1000) deep limits) in
+    let units : count_by is_unit_node all ≤ 1000 = leb-true (count_by is_unit_node all) 1000 (first_so (nat_le (count_by is_unit_node all) 1000) deep limits) in
     let same : many is_unit_node all ≡ count_by is_unit_node all = length-filter is_unit_node all in
     let few : length all ≤ 17 * many is_unit_node all =
-    few_from 0 None 0 17 j refl (all_stand all (nodes_unbroken j all refl none) (and_right (nat_le (count_by is_unit_node all) 1000) deep limits)) in
+    few_from 0 None 0 17 j refl (all_stand all (nodes_unbroken j all refl none) (second_so (nat_le (count_by is_unit_node all) 1000) deep limits)) in
     omega (arith, units, same, few)
 
 abbrev pub IsNumbered : Course → Type 0
@@ -257,12 +257,12 @@ none_refused (Some n) is = cc is
 -- a course that comes next breaks no rule
 unbroken : (limit : ℕ) (h : List Entry) (e : Entry) → ComesNext limit h e → (tree : Tree) → e.write ≡ write.Course tree → broken_rule (view tree) ≡ None
 unbroken limit [] e next tree is =
-    let founding : founds (write.Course tree) ≡ true = sym (ap founds is) ∙ and_right (is_operator e.caller && is_zero e.draw) (founds e.write) next in
+    let founding : founds (write.Course tree) ≡ true = sym (ap founds is) ∙ second_so (is_operator e.caller && is_zero e.draw) (founds e.write) next in
     absurd (false≢true founding)
 unbroken limit (first ∷ more) e next tree is =
     let st : State = state (first ∷ more) in
     let at : Occasion = occasion st e in
-    let free = no_reason (barred (write_area e.write) at.by ∷ bad_form e.write ∷ bad_role st at.by e.write ∷ missing st e.write ∷ unmergeable st e.write ∷ conflict st at e.write ∷ [])
+    let free = no_reason (barred (write_area e.write) at.by ∷ bad_form e.write ∷ barred_document st at.by e.write ∷ missing st e.write ∷ unmergeable st e.write ∷ conflict st at e.write ∷ [])
     (accepted limit (first ∷ more) e next).free in
     none_refused (broken_rule (view tree)) (sym (ap bad_form is) ∙ free.1.0)
 

@@ -129,23 +129,23 @@ owed_of_desk st new owed owes = subst (AllByRecursion (IsOfDesk own_verbs)) (sym
 -- ---- what an entry brings that is no statement of its caller
 
 -- deeds, and behind them what is owed
-pub record Tells (st : State) (x : Effect) : Type 0 where
+pub record TellsDeeds (st : State) (x : Effect) : Type 0 where
   pub told : List StoredStatement
   pub owed : List StoredStatement
   pub by_desk : AllByRecursion (IsOfDesk deeds) told
   pub owes : Owes st told owed
   pub whole : x.statements ≡ told ++ owed
 
-tells_deeds : (st : State) (x : Effect) → AllByRecursion (IsOfDesk deeds) x.statements → Tells st x
+tells_deeds : (st : State) (x : Effect) → AllByRecursion (IsOfDesk deeds) x.statements → TellsDeeds st x
 tells_deeds st x each = record { told = x.statements; owed = []; by_desk = each; owes = owes_nothing st x.statements; whole = sym (append-nil x.statements) }
 
-pub tells_nothing : (st : State) (moment : ℕ) → Tells st (no_change moment)
+pub tells_nothing : (st : State) (moment : ℕ) → TellsDeeds st (no_change moment)
 tells_nothing st moment = tells_deeds st (no_change moment) tt
 
-pub tells_enrolment : (st : State) (at : Occasion) (actor : Agent) (o : Option ℕ) → MakesIds at → Tells st (enrolling st at actor o)
-tells_enrolment st at actor o made = of_enrolment (Tells st) st at (tells_nothing st at.moment) actor o enrols
+pub tells_enrolment : (st : State) (at : Occasion) (actor : Agent) (o : Option ℕ) → MakesIds at → TellsDeeds st (enrolling st at actor o)
+tells_enrolment st at actor o made = of_enrolment (TellsDeeds st) st at (tells_nothing st at.moment) actor o enrols
   where
-    enrols : (course : ℕ) → Tells st (enrolling st at actor (Some course))
+    enrols : (course : ℕ) → TellsDeeds st (enrolling st at actor (Some course))
     enrols course =
         let r : HeldRegistration = record { id = at.supply 0; course = course; actor = actor } in
         let supply : Supply = rest_of (rest_of at.supply) in
@@ -157,10 +157,10 @@ tells_enrolment st at actor o made = of_enrolment (Tells st) st at (tells_nothin
           whole = refl;
         }
 
-pub tells_waiver : (st : State) (at : Occasion) (why : Reason) (registration unit : List ℕ) → AreIds st.registrations → Tells st (waiving st at why (target st registration unit))
-tells_waiver st at why registration unit ids = of_waiver (Tells st) st at (tells_nothing st at.moment) why (target st registration unit) waives
+pub tells_waiver : (st : State) (at : Occasion) (why : Reason) (registration unit : List ℕ) → AreIds st.registrations → TellsDeeds st (waiving st at why (target st registration unit))
+tells_waiver st at why registration unit ids = of_waiver (TellsDeeds st) st at (tells_nothing st at.moment) why (target st registration unit) waives
   where
-    waives : (t : Target) → target st registration unit ≡ Some t → Tells st (waived_by st at why t)
+    waives : (t : Target) → target st registration unit ≡ Some t → TellsDeeds st (waived_by st at why t)
     waives t is =
         let new : List StoredStatement = waived_at t why (at.supply 0) (rest_of at.supply) at.moment in
         let supply : Supply = rest_of (rest_of at.supply) in
@@ -180,12 +180,12 @@ tells_waiver st at why registration unit ids = of_waiver (Tells st) st at (tells
           whole = refl;
         }
 
-pub tells_ending : (st : State) (at : Occasion) (o : Option ℕ) → Tells st (abandoning_one st at o)
+pub tells_ending : (st : State) (at : Occasion) (o : Option ℕ) → TellsDeeds st (abandoning_one st at o)
 tells_ending st at o =
-    of_ending (Tells st) st at (tells_nothing st at.moment) o
+    of_ending (TellsDeeds st) st at (tells_nothing st at.moment) o
     (λ numbers. tells_deeds st (abandoning_each st at numbers) (of_desk deeds at.supply at.moment (abandoned_jsons st numbers) (abandoned_each st numbers)))
 
-pub tells_sweep : (st : State) (at : Occasion) (idle : ℕ) → Tells st (sweeping st at idle)
+pub tells_sweep : (st : State) (at : Occasion) (idle : ℕ) → TellsDeeds st (sweeping st at idle)
 tells_sweep st at idle =
     let numbers : List ℕ = idle_ones st idle at.moment in
     tells_deeds st (sweeping st at idle) (of_desk deeds at.supply at.moment (abandoned_jsons st numbers) (abandoned_each st numbers))
@@ -200,10 +200,10 @@ launched_of_desk t mode session id moment = (
   tt,
 )
 
-pub tells_launch : (st : State) (at : Occasion) (mode : Mode) (return_url : Option (List ℕ)) (o : Option Target) → Tells st (launching st at mode return_url o)
-tells_launch st at mode return_url o = of_launch (Tells st) st at (tells_nothing st at.moment) mode return_url o launches
+pub tells_launch : (st : State) (at : Occasion) (mode : Mode) (return_url : Option (List ℕ)) (o : Option Target) → TellsDeeds st (launching st at mode return_url o)
+tells_launch st at mode return_url o = of_launch (TellsDeeds st) st at (tells_nothing st at.moment) mode return_url o launches
   where
-    launches : (t : Target) → Tells st (launched_by st at mode return_url t)
+    launches : (t : Target) → TellsDeeds st (launched_by st at mode return_url t)
     launches t =
         let said : List Json = abandoned_jsons st (open_of st t.registration.id (activity_at t)) in
         let id : List ℕ = left_behind (rest_of at.supply) said 0 in
@@ -211,6 +211,6 @@ tells_launch st at mode return_url o = of_launch (Tells st) st at (tells_nothing
         (each_append (IsOfDesk deeds) (made_under (rest_of at.supply) at.moment said) (launched_at t mode (at.supply 0) id at.moment)
         (of_desk deeds (rest_of at.supply) at.moment said (abandoned_each st (open_of st t.registration.id (activity_at t)))) (launched_of_desk t mode (at.supply 0) id at.moment))
 
-pub tells_fetch : (st : State) (at : Occasion) (o : Option HeldKey) → Tells st (fetching st at o)
+pub tells_fetch : (st : State) (at : Occasion) (o : Option HeldKey) → TellsDeeds st (fetching st at o)
 tells_fetch st at o =
-    of_fetch (Tells st) st at (tells_nothing st at.moment) o (λ told. tells_deeds st (telling at.moment told) tt) (λ key is unused still. tells_deeds st (giving at key) tt)
+    of_fetch (TellsDeeds st) st at (tells_nothing st at.moment) o (λ told. tells_deeds st (telling at.moment told) tt) (λ key is unused still. tells_deeds st (giving at key) tt)

@@ -9,7 +9,7 @@ use Rattle.lrs_history.specs.Occasions.{Occasion, occasion}
 use Rattle.lrs_history.specs.DeskEffects.{launching}
 use Rattle.lrs_history.specs.History.{answer_of, end_offset, next_entry, only, outcome_by, refused, refused_or, said_at_once, state}
 use Rattle.lrs_history.specs.Launches.{Target, data_at, data_key, target}
-use Rattle.lrs_history.specs.Refusals.{barred, bad_form, bad_role, conflict, missing, refusal, refused_agent, refused_document, unmergeable, unmergeable_with}
+use Rattle.lrs_history.specs.Refusals.{barred, bad_form, barred_document, conflict, missing, refusal, refused_agent, refused_document, unmergeable, unmergeable_with}
 use Rattle.lrs_history.specs.Sessions.{outside, overstepped}
 use Rattle.lrs_history.specs.Whose.{who_is}
 use Rattle.lrs_ids.specs.Choices.{first_some, when}
@@ -106,7 +106,7 @@ posted_documents_are_merged limit h e key media bytes held makes is =
     let own = accepted_at limit (end_offset limit h) x e (write_said (effect st x)) (said_at_once st x) makes.made in
     let free = not_refused (refusal st x) (when (changes_nothing (effect st x)) (write_said (effect st x))) own.0 in
     let met : unmergeable_with media bytes (document_under key st.documents) ≡ None =
-    fifth_none (barred Store (who_is st makes.caller)) (bad_form w) (bad_role st (who_is st makes.caller) w) (missing st w) (unmergeable st w) (conflict st (occasion st x) w) free in
+    fifth_none (barred Store (who_is st makes.caller)) (bad_form w) (barred_document st (who_is st makes.caller) w) (missing st w) (unmergeable st w) (conflict st (occasion st x) w) free in
     let merges = merged_at (is_json held.media && is_json media) (merge held.bytes bytes) (sym (ap (unmergeable_with media bytes) is) ∙ met) in
     let written : e.write ≡ w = sym (ap (λ (z : Entry). z.write) own.1) in
     let same : is_same_key key key ≡ true = (eq_by_cmp_equiv keys_total).refl key in (
@@ -130,7 +130,7 @@ module _ (limit : ℕ) (h : List Entry) (caller : Caller) (key : StateKey) (medi
       let x = next_entry (state h) caller w clock draw in
       at_once limit h caller w clock draw (refused r)
       (said_refused (state h) x r
-      (fifth_first (barred Store (who_in h caller)) (bad_form w) (bad_role (state h) (who_in h caller) w) (missing (state h) w) (unmergeable (state h) w) (conflict (state h) (occasion (state h) x) w) r may.let_in formed may.own refl (ap (unmergeable_with media bytes) is ∙ why)))
+      (fifth_first (barred Store (who_in h caller)) (bad_form w) (barred_document (state h) (who_in h caller) w) (missing (state h) w) (unmergeable (state h) w) (conflict (state h) (occasion (state h) x) w) r may.let_in formed may.own refl (ap (unmergeable_with media bytes) is ∙ why)))
 
 pub unmergeable_is_told : UnmergeableIsTold
 unmergeable_is_told limit h caller key media bytes held clock draw may formed is = (

@@ -4,6 +4,7 @@ use Rattle.std.specs.Prelude.{if◌then◌else◌}
 use Rattle.std.specs.Option.{option_or}
 use Rattle.std.specs.Str.{bytes_eq}
 use Rattle.std.specs.Cmp.Lexicographic.{same_text}
+use Rattle.std.specs.Cmp.{second_so}
 use Rattle.std.proofs.lemmas.Cmp.{nat_list_eq_equiv}
 use Rattle.std.proofs.lemmas.List.Folds.{find-append}
 use Rattle.lrs_command.specs.declared.command.Command.TheVariants as command
@@ -21,7 +22,6 @@ use Rattle.lrs_laws.proofs.GivenTokens.{state_length}
 use Rattle.lrs_laws.proofs.Keepers.{state_from-append}
 use Rattle.lrs_laws.proofs.Lists.{found_passes}
 use Rattle.lrs_laws.proofs.Moves.{IsGift, Moves, moves, new_key}
-use Rattle.lrs_laws.proofs.NewIds.{and_right}
 use Rattle.lrs_laws.specs.Fetches.{FetchesGive, KeysGiveOnce, UsedKeysAreTold}
 use Rattle.lrs_state.specs.Launches.{key_under, keys_after}
 use Rattle.lrs_state.specs.State.{State, changes_nothing, nothing}
@@ -45,33 +45,33 @@ pub record IsUsed (name : List ℕ) (keys : List HeldKey) : Type 0 where
   pub used : key.fetched ≡ true
 
 -- an item in the place of the first with its text
-abbrev in_place : HeldKey → List HeldKey → List HeldKey
-in_place y keys = with_first (λ (x : HeldKey). bytes_eq x.key y.key) y keys
+abbrev with_key : HeldKey → List HeldKey → List HeldKey
+with_key y keys = with_first (λ (x : HeldKey). bytes_eq x.key y.key) y keys
 
 -- one that takes the place of the key that is found is found
-found_in_place : (name : List ℕ) (key y : HeldKey) (keys : List HeldKey) → key_under name keys ≡ Some key → y.key ≡ key.key → key_under name (in_place y keys) ≡ Some y
-found_in_place name key y [] is same = cc is
-found_in_place name key y (x ∷ keys) is same = by_name (bytes_eq x.key name) refl is (λ later. found_in_place name key y keys later same)
+found_with_key : (name : List ℕ) (key y : HeldKey) (keys : List HeldKey) → key_under name keys ≡ Some key → y.key ≡ key.key → key_under name (with_key y keys) ≡ Some y
+found_with_key name key y [] is same = cc is
+found_with_key name key y (x ∷ keys) is same = by_name (bytes_eq x.key name) refl is (λ later. found_with_key name key y keys later same)
   where
     named : bytes_eq y.key name ≡ true
     named = ap (λ t. bytes_eq t name) same ∙ found_passes (λ (k : HeldKey). bytes_eq k.key name) (x ∷ keys) key is
 
-    by_key : (c : Bool) → bytes_eq x.key y.key ≡ c → bytes_eq x.key name ≡ false → key_under name (in_place y keys) ≡ Some y → key_under name (if c then y ∷ keys else x ∷ in_place y keys) ≡ Some y
+    by_key : (c : Bool) → bytes_eq x.key y.key ≡ c → bytes_eq x.key name ≡ false → key_under name (with_key y keys) ≡ Some y → key_under name (if c then y ∷ keys else x ∷ with_key y keys) ≡ Some y
     by_key true alike other later = absurd (true≢false (sym named ∙ (ap (λ t. bytes_eq t name) (sym (same_text x.key y.key (sym alike))) ∙ other)))
-    by_key false apart other later = ap (λ b. cond b (Some x) (key_under name (in_place y keys))) other ∙ later
+    by_key false apart other later = ap (λ b. cond b (Some x) (key_under name (with_key y keys))) other ∙ later
 
-    by_name : (b : Bool) → bytes_eq x.key name ≡ b → cond b (Some x) (key_under name keys) ≡ Some key → (key_under name keys ≡ Some key → key_under name (in_place y keys) ≡ Some y)
-        → key_under name (in_place y (x ∷ keys)) ≡ Some y
+    by_name : (b : Bool) → bytes_eq x.key name ≡ b → cond b (Some x) (key_under name keys) ≡ Some key → (key_under name keys ≡ Some key → key_under name (with_key y keys) ≡ Some y)
+        → key_under name (with_key y (x ∷ keys)) ≡ Some y
     by_name true here at more =
         let found : x ≡ key = cc at in
         let alike : bytes_eq x.key y.key ≡ true = ap (λ (k : HeldKey). bytes_eq k.key y.key) found ∙ (ap (λ t. bytes_eq t y.key) (sym same) ∙ nat_list_eq_equiv.refl y.key) in
-        ap (λ c. key_under name (if c then y ∷ keys else x ∷ in_place y keys)) alike ∙ ap (λ c. cond c (Some y) (key_under name keys)) named
+        ap (λ c. key_under name (if c then y ∷ keys else x ∷ with_key y keys)) alike ∙ ap (λ c. cond c (Some y) (key_under name keys)) named
     by_name false other at more = by_key (bytes_eq x.key y.key) refl other (more at)
 
 -- a used key stays used where another one is fetched
-used_in_place : (name : List ℕ) (y : HeldKey) (keys : List HeldKey) → y.fetched ≡ true → IsUsed name keys → IsUsed name (in_place y keys)
-used_in_place name y [] done used = cc used.held
-used_in_place name y (x ∷ keys) done used = by_key (bytes_eq x.key y.key) refl (λ rest. used_in_place name y keys done rest)
+used_with_key : (name : List ℕ) (y : HeldKey) (keys : List HeldKey) → y.fetched ≡ true → IsUsed name keys → IsUsed name (with_key y keys)
+used_with_key name y [] done used = cc used.held
+used_with_key name y (x ∷ keys) done used = by_key (bytes_eq x.key y.key) refl (λ rest. used_with_key name y keys done rest)
   where
     by_name : (b : Bool) → bytes_eq x.key name ≡ b → bytes_eq x.key y.key ≡ true → cond b (Some x) (key_under name keys) ≡ Some used.key → IsUsed name (y ∷ keys)
     by_name true here alike at = record {
@@ -85,13 +85,13 @@ used_in_place name y (x ∷ keys) done used = by_key (bytes_eq x.key y.key) refl
       used = used.used;
     }
 
-    by_other : (b : Bool) → bytes_eq x.key name ≡ b → cond b (Some x) (key_under name keys) ≡ Some used.key → (IsUsed name keys → IsUsed name (in_place y keys)) → IsUsed name (x ∷ in_place y keys)
-    by_other true here at more = record { key = used.key; held = ap (λ c. cond c (Some x) (key_under name (in_place y keys))) here ∙ at; used = used.used }
+    by_other : (b : Bool) → bytes_eq x.key name ≡ b → cond b (Some x) (key_under name keys) ≡ Some used.key → (IsUsed name keys → IsUsed name (with_key y keys)) → IsUsed name (x ∷ with_key y keys)
+    by_other true here at more = record { key = used.key; held = ap (λ c. cond c (Some x) (key_under name (with_key y keys))) here ∙ at; used = used.used }
     by_other false other at more =
         let rest = more (record { key = used.key; held = at; used = used.used }) in
-        record { key = rest.key; held = ap (λ c. cond c (Some x) (key_under name (in_place y keys))) other ∙ rest.held; used = rest.used }
+        record { key = rest.key; held = ap (λ c. cond c (Some x) (key_under name (with_key y keys))) other ∙ rest.held; used = rest.used }
 
-    by_key : (c : Bool) → bytes_eq x.key y.key ≡ c → (IsUsed name keys → IsUsed name (in_place y keys)) → IsUsed name (if c then y ∷ keys else x ∷ in_place y keys)
+    by_key : (c : Bool) → bytes_eq x.key y.key ≡ c → (IsUsed name keys → IsUsed name (with_key y keys)) → IsUsed name (if c then y ∷ keys else x ∷ with_key y keys)
     by_key true alike more = by_name (bytes_eq x.key name) refl alike used.held
     by_key false apart more = by_other (bytes_eq x.key name) refl used.held more
 
@@ -104,7 +104,7 @@ used_after name st at w x (inr (inl comes)) used =
       used = used.used;
     })
 used_after name st at w x (inr (inr gift)) used =
-    subst (λ (y : Effect). IsUsed name (keys_after st.keys y.keys)) (sym gift.gives) (used_in_place name (record gift.key { fetched = true }) st.keys refl used)
+    subst (λ (y : Effect). IsUsed name (keys_after st.keys y.keys)) (sym gift.gives) (used_with_key name (record gift.key { fetched = true }) st.keys refl used)
 
 used_on : (name : List ℕ) (st : State) (more : List Entry) → IsUsed name st.keys → IsUsed name (state_from st more).keys
 used_on name st [] used = used
@@ -145,7 +145,7 @@ pub record Gave (before : List Entry) (e : Entry) (name : List ℕ) (said : Answ
 
 pub gave : (limit : ℕ) (before : List Entry) (e : Entry) (name : List ℕ) → ComesNext limit before e → e.write ≡ Fetch name
     → Gave before e name (answer limit before e.caller (command.Write e.write) e.moment e.draw).said
-gave limit [] e name next fetches = absurd (true≢false (sym (and_right (is_operator e.caller && is_zero e.draw) (founds e.write) next) ∙ ap founds fetches))
+gave limit [] e name next fetches = absurd (true≢false (sym (second_so (is_operator e.caller && is_zero e.draw) (founds e.write) next) ∙ ap founds fetches))
 gave limit (first ∷ more) e name next fetches = record { gift = gift; told = entry.said ∙ (ap write_said gift.gives ∙ ap (λ n. Shown (session_token_body (token_text n e.draw.secret)) None) (state_length (first ∷ more))) }
   where
     st : State
@@ -167,7 +167,7 @@ used_behind before behind e name said g =
     let y : HeldKey = record key { fetched = true } in
     let same : g.gift.name ≡ name = ap fetched_name (sym g.gift.fetches) in
     let held : key_under name st.keys ≡ Some key = subst (λ n. key_under n st.keys ≡ Some key) same g.gift.held in
-    let found : IsUsed name (in_place y st.keys) = record { key = y; held = found_in_place name key y st.keys held refl; used = refl } in
+    let found : IsUsed name (with_key y st.keys) = record { key = y; held = found_with_key name key y st.keys held refl; used = refl } in
     let here : IsUsed name (step st e).keys = subst (λ (x : Effect). IsUsed name (keys_after st.keys x.keys)) (sym g.gift.gives) found in
     subst (λ (s : State). IsUsed name s.keys) (sym (state_from-append nothing before (e ∷ behind))) (used_on name (step st e) behind here)
 

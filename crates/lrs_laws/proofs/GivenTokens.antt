@@ -97,8 +97,8 @@ behind_word word rest = ap (λ n. drop n (word_text word ++ rest)) (sym (length-
 pub joined : (index secret : ℕ) → token_text index secret ≡ word_text secret ++ 45 ∷ decimal index
 joined index secret = append_assoc (word_text secret) (45 ∷ []) (decimal index)
 
-pub same_place : (m n s t : ℕ) → m < 2 ^ 64 → n < 2 ^ 64 → token_text m s ≡ token_text n t → m ≡ n
-same_place m n s t small few is =
+pub same_index : (m n s t : ℕ) → m < 2 ^ 64 → n < 2 ^ 64 → token_text m s ≡ token_text n t → m ≡ n
+same_index m n s t small few is =
     let tails : 45 ∷ decimal m ≡ 45 ∷ decimal n = sym (behind_word s (45 ∷ decimal m)) ∙ (ap (drop 32) (sym (joined m s) ∙ (is ∙ joined n t)) ∙ behind_word t (45 ∷ decimal n)) in
     decimal_injective m n small few (ap (drop 1) tails)
 
@@ -112,7 +112,7 @@ other_token h token n secret given later few = by_test (bytes_eq (token_text n s
     by_test : (b : Bool) → bytes_eq (token_text n secret) token ≡ b → b ≡ false
     by_test false is = refl
     by_test true is =
-        let index : n ≡ length given.before = same_place n (length given.before) secret given.fetch.draw.secret few (omega (arith, earlier, later, few)) (same_text (token_text n secret) token (sym is) ∙ given.told) in
+        let index : n ≡ length given.before = same_index n (length given.before) secret given.fetch.draw.secret few (omega (arith, earlier, later, few)) (same_text (token_text n secret) token (sym is) ∙ given.told) in
         absurd (omega (arith, earlier, later, index))
 
 -- ---- what a token tells stays

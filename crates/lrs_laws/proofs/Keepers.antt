@@ -91,10 +91,6 @@ target_each : (id : List ℕ) (held more : List StoredStatement) → is_target i
 target_each id held [] is = is
 target_each id held (s ∷ more) is = target_each id (add held s) more (target_add id held s is)
 
-pub add_each-append : (held xs ys : List StoredStatement) → add_each held (xs ++ ys) ≡ add_each (add_each held xs) ys
-add_each-append held [] ys = refl
-add_each-append held (x ∷ xs) ys = add_each-append (add held x) xs ys
-
 -- ---- more entries
 
 distinct_from : (st : State) (h : List Entry) → are_distinct (ids_of st.statements) ≡ true → are_distinct (ids_of (state_from st h).statements) ≡ true

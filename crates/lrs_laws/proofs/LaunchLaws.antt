@@ -11,13 +11,13 @@ use Rattle.lrs_history.specs.DeskEffects.{launching}
 use Rattle.lrs_history.specs.History.{state}
 use Rattle.lrs_history.specs.Launches.{Target, activity_at, target}
 use Rattle.lrs_history.specs.Made.{left_behind, made_under}
-use Rattle.lrs_history.specs.Refusals.{bad_form, bad_role, barred, conflict, missing, unless_there, unmergeable}
+use Rattle.lrs_history.specs.Refusals.{bad_form, barred_document, barred, conflict, missing, unless_there, unmergeable}
 use Rattle.lrs_ids.specs.Ids.{Supply, rest_of}
 use Rattle.lrs_json.specs.Json.{Json}
 use Rattle.lrs_json.specs.Trees.{tree_of}
 use Rattle.lrs_laws.proofs.Accepting.{accepted}
 use Rattle.lrs_laws.proofs.Again.{no_reason}
-use Rattle.lrs_laws.proofs.Keepers.{add_each-append, held_one}
+use Rattle.lrs_laws.proofs.Keepers.{held_one}
 use Rattle.lrs_laws.proofs.Launched.{after_one}
 use Rattle.lrs_laws.proofs.NewIds.{desk_ids_are_new}
 use Rattle.lrs_laws.proofs.WholeBatches.{found_add, unheld_add}
@@ -29,7 +29,7 @@ use Rattle.lrs_record.specs.Writes.{write_area}
 use Rattle.lrs_record.specs.declared.entry.Entry.{Entry}
 use Rattle.lrs_record.specs.declared.entry.Write.TheVariants as write
 use Rattle.xapi_format.specs.declared.authority.Authority.TheVariants.{Desk}
-use Rattle.xapi_index.proofs.Adding.{add-old}
+use Rattle.xapi_index.proofs.Adding.{add-old, add_each-append}
 use Rattle.xapi_index.specs.Batches.{held_of}
 use Rattle.xapi_statement.specs.Statements.{add, add_each, held_under, is_held}
 use Rattle.xapi_statement.specs.Stored.{StoredStatement}
@@ -127,6 +127,6 @@ pub launches_leave_statements : LaunchesLeaveStatements
 launches_leave_statements limit h e registration unit mode return_url is launches =
     let st : State = state h in
     let at : Occasion = occasion st e in
-    let reasons = no_reason (barred (write_area e.write) at.by ∷ bad_form e.write ∷ bad_role st at.by e.write ∷ missing st e.write ∷ unmergeable st e.write ∷ conflict st at e.write ∷ []) (accepted limit h e is).free in
+    let reasons = no_reason (barred (write_area e.write) at.by ∷ bad_form e.write ∷ barred_document st at.by e.write ∷ missing st e.write ∷ unmergeable st e.write ∷ conflict st at e.write ∷ []) (accepted limit h e is).free in
     let found = there (target st registration unit) (sym (ap (missing st) launches) ∙ reasons.1.1.1.0) in
     (found.0, found.1, λ small. leaves h e registration unit mode return_url found.0 launches found.1 small)

@@ -97,14 +97,14 @@ token_launched st token k each is = by_token (token_under token st.tokens) refl 
 pub acting : (st : State) (token : List ℕ) (k : ℕ) → who_is st (Token token) ≡ who.Session k → launch_of_token token st.tokens ≡ Some k
 acting st token k is = by_admin (is_admin st.founding token) is
   where
-    by_places : (o p : Option ℕ) → launch_of_token token st.tokens ≡ p → known_as o p ≡ who.Session k → launch_of_token token st.tokens ≡ Some k
-    by_places None None acts at = cc at
-    by_places None (Some j) acts at = let same : j ≡ k = cc at in acts ∙ ap Some same
-    by_places (Some j) p acts at = cc at
+    by_indices : (o p : Option ℕ) → launch_of_token token st.tokens ≡ p → known_as o p ≡ who.Session k → launch_of_token token st.tokens ≡ Some k
+    by_indices None None acts at = cc at
+    by_indices None (Some j) acts at = let same : j ≡ k = cc at in acts ∙ ap Some same
+    by_indices (Some j) p acts at = cc at
 
     by_admin : (b : Bool) → (if b then who.Admin else known_as (index_of_token token st.providers) (launch_of_token token st.tokens)) ≡ who.Session k → launch_of_token token st.tokens ≡ Some k
     by_admin true at = cc at
-    by_admin false at = by_places (index_of_token token st.providers) (launch_of_token token st.tokens) refl at
+    by_admin false at = by_indices (index_of_token token st.providers) (launch_of_token token st.tokens) refl at
 
 -- the launch of a session is held
 pub session_launched : (h : List Entry) (caller : Caller) (k : ℕ) → who_is (state h) caller ≡ who.Session k → (launch : Launch) × (slice_get (state h).launches k ≡ Some launch)

@@ -44,12 +44,12 @@ all_in Desk by is = cc is
 -- ---- later
 
 -- of a token by its indices among those of providers and of sessions, before and later
-by_places : (area : Area) (o p later_o later_p : Option ℕ) → ((k : ℕ) → o ≡ Some k → later_o ≡ Some k) → ((k : ℕ) → p ≡ Some k → later_p ≡ Some k)
+by_indices : (area : Area) (o p later_o later_p : Option ℕ) → ((k : ℕ) → o ≡ Some k → later_o ≡ Some k) → ((k : ℕ) → p ≡ Some k → later_p ≡ Some k)
     → barred area (known_as o p) ≡ None → barred area (known_as later_o later_p) ≡ None
-by_places area (Some k) p later_o later_p provider session is = ap (λ o. barred area (known_as o later_p)) (provider k refl) ∙ is
-by_places area None (Some j) (Some k) later_p provider session is = provider_in area j k is
-by_places area None (Some j) None later_p provider session is = ap (λ p. barred area (known_as None p)) (session j refl) ∙ is
-by_places area None None later_o later_p provider session is = all_in area (known_as later_o later_p) is
+by_indices area (Some k) p later_o later_p provider session is = ap (λ o. barred area (known_as o later_p)) (provider k refl) ∙ is
+by_indices area None (Some j) (Some k) later_p provider session is = provider_in area j k is
+by_indices area None (Some j) None later_p provider session is = ap (λ p. barred area (known_as None p)) (session j refl) ∙ is
+by_indices area None None later_o later_p provider session is = all_in area (known_as later_o later_p) is
 
 -- of a token that may be the admin's, before and later
 by_admin : (area : Area) (b later_b : Bool) (by later_by : Who) → (b ≡ true → later_b ≡ true) → (barred area by ≡ None → barred area later_by ≡ None)
@@ -73,7 +73,7 @@ let_in_on st more (Token token) area is =
     let later = state_from st more in
     by_admin area (is_admin st.founding token) (is_admin later.founding token)
     (known_as (index_of_token token st.providers) (launch_of_token token st.tokens)) (known_as (index_of_token token later.providers) (launch_of_token token later.tokens)) (admin_on st more token)
-    (by_places area (index_of_token token st.providers) (launch_of_token token st.tokens) (index_of_token token later.providers) (launch_of_token token later.tokens)
+    (by_indices area (index_of_token token st.providers) (launch_of_token token st.tokens) (index_of_token token later.providers) (launch_of_token token later.tokens)
     (λ k at. known_on token k st more at) (λ k at. launch_on token st more k at)) is
 
 pub callers_stay_let_in : CallersStayLetIn

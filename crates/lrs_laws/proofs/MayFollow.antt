@@ -4,7 +4,9 @@ use Rattle.std.specs.Prelude.{if◌then◌else◌}
 use Rattle.std.specs.List.{list_any}
 use Rattle.std.specs.Cmp.Lexicographic.{same_text}
 use Rattle.std.specs.Str.{bytes_eq}
+use Rattle.std.specs.Cmp.{first_so, second_so}
 use Rattle.std.proofs.lemmas.List.Elements.{filter-append}
+use Rattle.std.proofs.lemmas.Bool.{and_from, or_left, or_right}
 use Rattle.cmi5_course.specs.declared.launch.Launch.{Launch}
 use Rattle.cmi5_launch.specs.Names.{completed, failed, initialized, passed, terminated}
 use Rattle.cmi5_session.specs.Own.{has_own, is_cmi5_defined, is_of_session, says}
@@ -15,7 +17,6 @@ use Rattle.cmi5_session.specs.declared.phase.Phase.TheVariants as phase
 use Rattle.lrs_json.specs.Json.{Json}
 use Rattle.lrs_json.specs.View.{view}
 use Rattle.lrs_laws.proofs.Keepers.{left_false, or_false, right_false}
-use Rattle.lrs_laws.proofs.NewIds.{and_left, and_right, both_true, or_right}
 use Rattle.lrs_laws.proofs.Permitted.{broken_as, permitted, spoken, unless_none}
 use Rattle.lrs_laws.specs.Speaking.{are_in_order, goes_on, is_between, own_statements}
 use Rattle.lrs_state.specs.State.{is_empty}
@@ -41,9 +42,6 @@ begun_once v j at free =
 abbrev MayStand : Json → Type 0
 MayStand j = is_between j || says terminated j ≡ true
 
-or_left : (a b : Bool) → a ≡ true → a || b ≡ true
-or_left a b is = ap (λ c. c || b) is
-
 -- a session that has begun
 said : (v : SeenSession) (j : Json) → v.phase ≡ phase.Initialized → (if is_cmi5_defined j then broken_defined v (verb_named (verb_of j)) j else None) ≡ None → MayStand j
 said v j at free = by_defined (is_cmi5_defined j) refl free
@@ -55,7 +53,7 @@ said v j at free = by_defined (is_cmi5_defined j) refl free
     stands is = or_left (is_between j) (says terminated j) is
 
     by_verb : (verb : List ℕ) → bytes_eq (verb_of j) verb ≡ true → is_cmi5_defined j ≡ true → says verb j ≡ true
-    by_verb verb is defined = both_true (bytes_eq (verb_of j) verb) (is_cmi5_defined j) is defined
+    by_verb verb is defined = and_from (bytes_eq (verb_of j) verb) (is_cmi5_defined j) is defined
 
     by_id : (a b c d e : Bool) → bytes_eq (verb_of j) initialized ≡ a → bytes_eq (verb_of j) completed ≡ b → bytes_eq (verb_of j) passed ≡ c → bytes_eq (verb_of j) failed ≡ d → bytes_eq (verb_of j) terminated ≡ e
         → is_cmi5_defined j ≡ true → broken_defined v (verb_named (verb_of j)) j ≡ None → MayStand j
@@ -97,14 +95,14 @@ own_says session verb (s ∷ ss) = by_session (is_of_session session s.authority
 none_said : (ss : List StoredStatement) → are_in_order ss ≡ true → one_says initialized ss ≡ false → ss ≡ []
 none_said [] order none = refl
 none_said (s ∷ ss) order none =
-    absurd (true≢false (sym (and_left (says initialized (view s.received)) (goes_on ss) order) ∙ left_false (says initialized (view s.received)) (one_says initialized ss) none))
+    absurd (true≢false (sym (first_so (says initialized (view s.received)) (goes_on ss) order) ∙ left_false (says initialized (view s.received)) (one_says initialized ss) none))
 
 goes_after : (ss : List StoredStatement) (s : StoredStatement) → MayStand (view s.received) → one_says terminated ss ≡ false → goes_on ss ≡ true → goes_on (ss ++ s ∷ []) ≡ true
 goes_after [] s may none on = by_end (says terminated (view s.received)) may
   where
     by_end : (b : Bool) → is_between (view s.received) || b ≡ true → (if b then is_empty {A = StoredStatement} [] else is_between (view s.received) && true) ≡ true
     by_end true is = refl
-    by_end false is = both_true (is_between (view s.received)) true (sym (or_false (is_between (view s.received))) ∙ is) refl
+    by_end false is = and_from (is_between (view s.received)) true (sym (or_false (is_between (view s.received))) ∙ is) refl
 goes_after (x ∷ ss) s may none on =
     by_end (says terminated (view x.received)) refl on (λ rest. goes_after ss s may (right_false (says terminated (view x.received)) (one_says terminated ss) none) rest)
   where
@@ -112,13 +110,13 @@ goes_after (x ∷ ss) s may none on =
         → (if b then is_empty (ss ++ s ∷ []) else is_between (view x.received) && goes_on (ss ++ s ∷ [])) ≡ true
     by_end true ends at more = absurd (true≢false (sym ends ∙ left_false (says terminated (view x.received)) (one_says terminated ss) none))
     by_end false ends at more =
-        both_true (is_between (view x.received)) (goes_on (ss ++ s ∷ [])) (and_left (is_between (view x.received)) (goes_on ss) at) (more (and_right (is_between (view x.received)) (goes_on ss) at))
+        and_from (is_between (view x.received)) (goes_on (ss ++ s ∷ [])) (first_so (is_between (view x.received)) (goes_on ss) at) (more (second_so (is_between (view x.received)) (goes_on ss) at))
 
 order_after : (ss : List StoredStatement) (s : StoredStatement) → MayStand (view s.received) → one_says initialized ss ≡ true → one_says terminated ss ≡ false → are_in_order ss ≡ true → are_in_order (ss ++ s ∷ []) ≡ true
 order_after [] s may begun none order = cc begun
 order_after (x ∷ ss) s may begun none order =
-    both_true (says initialized (view x.received)) (goes_on (ss ++ s ∷ [])) (and_left (says initialized (view x.received)) (goes_on ss) order)
-    (goes_after ss s may (right_false (says terminated (view x.received)) (one_says terminated ss) none) (and_right (says initialized (view x.received)) (goes_on ss) order))
+    and_from (says initialized (view x.received)) (goes_on (ss ++ s ∷ [])) (first_so (says initialized (view x.received)) (goes_on ss) order)
+    (goes_after ss s may (right_false (says terminated (view x.received)) (one_says terminated ss) none) (second_so (says initialized (view x.received)) (goes_on ss) order))
 
 -- ---- a session's own statements
 
@@ -163,4 +161,4 @@ follows l before s own free order =
         (sym (own_says l.session terminated before) ∙ is_ended) order
     by_phase false false is_ended is_begun =
         let first : says initialized j ≡ true = unless_none (says initialized j) 7 (sym (ap (λ p. broken_by_phase p j) (phase_is false false is_ended is_begun)) ∙ (permitted v j free).in_phase) in
-        ap (λ ss. are_in_order (ss ++ s ∷ [])) (none_said said_before order (sym (own_says l.session initialized before) ∙ is_begun)) ∙ both_true (says initialized j) true first refl
+        ap (λ ss. are_in_order (ss ++ s ∷ [])) (none_said said_before order (sym (own_says l.session initialized before) ∙ is_begun)) ∙ and_from (says initialized j) true first refl

@@ -1,9 +1,10 @@
 -- Made ids are new.
-use Rattle.std.proofs.Common.{◌≡◌, ◌≢◌, ℕ, zero, suc, ◌+◌, ◌%◌, ◌<◌, List, [], ◌∷◌, ◌++◌, length, Bool, true, false, not, ◌&&◌, ◌||◌, Option, Some, None, refl, sym, ap, subst, ◌∙◌, arith, length-append, true≢false}
+use Rattle.std.proofs.Common.{◌≡◌, ◌≢◌, ℕ, zero, suc, ◌+◌, ◌%◌, ◌<◌, List, [], ◌∷◌, ◌++◌, length, Bool, true, false, not, ◌||◌, Option, Some, None, refl, sym, ap, subst, ◌∙◌, arith, length-append, true≢false}
 use Rattle.std.specs.List.{AllByRecursion}
 use Rattle.std.specs.Str.{bytes_eq}
 use Rattle.std.specs.Cmp.Lexicographic.{same_text}
-use Rattle.std.proofs.lemmas.Bool.{false≢true}
+use Rattle.std.specs.Cmp.{first_so, second_so}
+use Rattle.std.proofs.lemmas.Bool.{and_from, false≢true, not-true, or_right}
 use Rattle.std.proofs.lemmas.Cmp.{nat_list_eq_equiv}
 use Rattle.std.proofs.lemmas.List.Folds.{list_any-append}
 use Rattle.lrs_rules.specs.declared.rule.Rule.TheVariants as rule
@@ -33,26 +34,6 @@ use Rattle.xapi_statement.specs.Statement.{own_id}
 -- the ids under which statements go that come together
 abbrev ids_from : Supply → List Tree → List (List ℕ)
 ids_from supply ts = ids_under (with_ids supply ts)
-
-pub not_true : (b : Bool) → not b ≡ true → b ≡ false
-not_true true is = cc is
-not_true false is = refl
-
-pub or_right : (a b : Bool) → b ≡ true → a || b ≡ true
-or_right true b is = refl
-or_right false b is = is
-
-pub and_left : (a b : Bool) → a && b ≡ true → a ≡ true
-and_left true b is = refl
-and_left false b is = is
-
-pub and_right : (a b : Bool) → a && b ≡ true → b ≡ true
-and_right true b is = is
-and_right false b is = cc is
-
-pub both_true : (a b : Bool) → a ≡ true → b ≡ true → a && b ≡ true
-both_true true b p q = q
-both_true false b p q = p
 
 pub differs : (ids : List (List ℕ)) (x q : List ℕ) → is_one_of ids x ≡ false → is_one_of ids q ≡ true → bytes_eq x q ≡ false
 differs ids x q new used = by_test (bytes_eq x q) refl
@@ -109,7 +90,7 @@ distinct_ids used counted ids most word (t ∷ ts) fits apart given =
     by_own None fit still all more =
         let unused : is_one_of ids id ≡ false = (made_free used counted ids most word (missing ts) fit).1 in
         let room : Suffices used (id ∷ ids) (most + 1) (missing ts) = one_made used id ids most (missing ts) fit in
-        both_true (not (is_one_of (ids_from (made_id used (id ∷ ids) (most + 1) next) ts) id)) (are_distinct (ids_from (made_id used (id ∷ ids) (most + 1) next) ts))
+        and_from (not (is_one_of (ids_from (made_id used (id ∷ ids) (most + 1) next) ts) id)) (are_distinct (ids_from (made_id used (id ∷ ids) (most + 1) next) ts))
         (ap (λ b. not b) (elsewhere used counted (id ∷ ids) (most + 1) next ts id room (here id ids) (not_given unused all)))
         (more (id ∷ ids) (most + 1) next room still (λ g there. or_right (bytes_eq id g) (is_one_of ids g) (all g there)))
       where
@@ -120,9 +101,9 @@ distinct_ids used counted ids most word (t ∷ ts) fits apart given =
             by_test true is = absurd (false≢true (sym unused ∙ all id is))
             by_test false is = refl
     by_own (Some own) fit still all more =
-        both_true (not (is_one_of (ids_from (made_id used ids most word) ts) own)) (are_distinct (ids_from (made_id used ids most word) ts))
-        (ap (λ b. not b) (elsewhere used counted ids most word ts own fit (all own (here own (given_ids ts))) (not_true (is_one_of (given_ids ts) own) (and_left (not (is_one_of (given_ids ts) own)) (are_distinct (given_ids ts)) still))))
-        (more ids most word fit (and_right (not (is_one_of (given_ids ts) own)) (are_distinct (given_ids ts)) still) (λ g there. all g (or_right (bytes_eq own g) (is_one_of (given_ids ts) g) there)))
+        and_from (not (is_one_of (ids_from (made_id used ids most word) ts) own)) (are_distinct (ids_from (made_id used ids most word) ts))
+        (ap (λ b. not b) (elsewhere used counted ids most word ts own fit (all own (here own (given_ids ts))) (not-true (is_one_of (given_ids ts) own) (first_so (not (is_one_of (given_ids ts) own)) (are_distinct (given_ids ts)) still))))
+        (more ids most word fit (second_so (not (is_one_of (given_ids ts) own)) (are_distinct (given_ids ts)) still) (λ g there. all g (or_right (bytes_eq own g) (is_one_of (given_ids ts) g) there)))
 
 -- where none is its own, the id isn't used
 abbrev IsNew : Used → WithId → Type 0

@@ -7,6 +7,7 @@ use Rattle.std.specs.List.{AllByRecursion, list_all, position_from}
 use Rattle.std.specs.Option.{option_or}
 use Rattle.std.specs.Str.{bytes_eq}
 use Rattle.std.specs.Cmp.Lexicographic.{same_text}
+use Rattle.std.specs.Cmp.{second_so}
 use Rattle.std.proofs.lemmas.Cmp.{nat_list_eq_equiv}
 use Rattle.std.proofs.lemmas.Iterator.Adapters.{position_from-zero}
 use Rattle.std.proofs.lemmas.List.Folds.{find-append, list_all-append}
@@ -16,12 +17,11 @@ use Rattle.lrs_history.specs.Occasions.{occasion}
 use Rattle.lrs_history.specs.History.{state, state_from, step}
 use Rattle.lrs_history.specs.Whose.{known_as}
 use Rattle.lrs_laws.proofs.Fetching.{fetched_name, gave, legal_from}
-use Rattle.lrs_laws.proofs.GivenTokens.{all_given, joined, launch_on, no_provider_on, provider_moves, same_place, state_length}
+use Rattle.lrs_laws.proofs.GivenTokens.{all_given, joined, launch_on, no_provider_on, provider_moves, same_index, state_length}
 use Rattle.lrs_laws.proofs.Keepers.{state_from-append}
 use Rattle.lrs_laws.proofs.Launched.{after_one, all_launched, by_entries, launched_on}
 use Rattle.lrs_laws.proofs.Lists.{each_found, each_push, each_weaker, item_there}
 use Rattle.lrs_laws.proofs.Moves.{MovesProviders, moves}
-use Rattle.lrs_laws.proofs.NewIds.{and_right}
 use Rattle.lrs_laws.proofs.PageLaws.{has_founding}
 use Rattle.lrs_laws.specs.Sessions.{GivenTokensAct, WasGiven}
 use Rattle.lrs_state.specs.Founding.{is_admin, is_token}
@@ -40,14 +40,14 @@ use Rattle.lrs_replies.specs.Texts.{token_text}
 -- ---- the indices of providers' tokens
 
 -- the token tells an earlier index than that
-record TellsPlace (n : ℕ) (token : List ℕ) : Type 0 where
+record TellsIndex (n : ℕ) (token : List ℕ) : Type 0 where
   pub index : ℕ
   pub secret : ℕ
   pub earlier : index < n
   pub told : token ≡ token_text index secret
 
 abbrev AreTold : ℕ → List HeldProvider → Type 0
-AreTold n providers = AllByRecursion (λ (c : HeldProvider). TellsPlace n c.token) providers
+AreTold n providers = AllByRecursion (λ (c : HeldProvider). TellsIndex n c.token) providers
 
 told_after : (h : List Entry) (e : Entry) (x : Effect) → MovesProviders (occasion (state h) e) x → AreTold (length h) (state h).providers → AreTold (length (h ++ e ∷ [])) (providers_after (state h).providers x.providers)
 told_after h e x by_move each = by_kind by_move
@@ -56,14 +56,14 @@ told_after h e x by_move each = by_kind by_move
     longer = length-append h (e ∷ [])
 
     still : AreTold (length (h ++ e ∷ [])) (state h).providers
-    still = each_weaker (λ (c : HeldProvider). TellsPlace (length h) c.token) (λ (c : HeldProvider). TellsPlace (length (h ++ e ∷ [])) c.token)
+    still = each_weaker (λ (c : HeldProvider). TellsIndex (length h) c.token) (λ (c : HeldProvider). TellsIndex (length (h ++ e ∷ [])) c.token)
         (λ c tells. record { index = tells.index; secret = tells.secret; earlier = omega (arith, tells.earlier, longer); told = tells.told }) (state h).providers each
 
     by_kind : MovesProviders (occasion (state h) e) x → AreTold (length (h ++ e ∷ [])) (providers_after (state h).providers x.providers)
     by_kind (inl same) = subst (λ c. AreTold (length (h ++ e ∷ [])) (providers_after (state h).providers c)) (sym same) still
     by_kind (inr made) =
         subst (λ c. AreTold (length (h ++ e ∷ [])) (providers_after (state h).providers c)) (sym made.providers)
-        (each_push (λ (c : HeldProvider). TellsPlace (length (h ++ e ∷ [])) c.token) (state h).providers (record { name = made.name; token = (occasion (state h) e).token }) still
+        (each_push (λ (c : HeldProvider). TellsIndex (length (h ++ e ∷ [])) c.token) (state h).providers (record { name = made.name; token = (occasion (state h) e).token }) still
         (record { index = length h; secret = e.draw.secret; earlier = omega (arith, longer); told = ap (λ n. token_text n e.draw.secret) (state_length h) }))
 
 all_told : (h : List Entry) → AreTold (length h) (state h).providers
@@ -79,7 +79,7 @@ apart token n secret index other told earlier few = by_test (bytes_eq token (tok
     by_test : (b : Bool) → bytes_eq token (token_text n secret) ≡ b → b ≡ false
     by_test false is = refl
     by_test true is =
-        let one : index ≡ n = same_place index n other secret (omega (arith, earlier, few)) few (sym told ∙ same_text token (token_text n secret) (sym is)) in
+        let one : index ≡ n = same_index index n other secret (omega (arith, earlier, few)) few (sym told ∙ same_text token (token_text n secret) (sym is)) in
         absurd (omega (arith, earlier, one))
 
 none_from : {A : Type 0} (p : A → Bool) (i : ℕ) (xs : List A) → AllByRecursion (λ x. p x ≡ false) xs → position_from p i xs ≡ None
@@ -91,7 +91,7 @@ no_provider h secret few =
     let T : List ℕ = token_text (length h) secret in
     position_from-zero (λ (c : HeldProvider). bytes_eq c.token T) (state h).providers
     ∙ none_from (λ (c : HeldProvider). bytes_eq c.token T) 0 (state h).providers
-    (each_weaker (λ (c : HeldProvider). TellsPlace (length h) c.token) (λ (c : HeldProvider). bytes_eq c.token T ≡ false)
+    (each_weaker (λ (c : HeldProvider). TellsIndex (length h) c.token) (λ (c : HeldProvider). bytes_eq c.token T ≡ false)
     (λ c tells. apart c.token (length h) secret tells.index tells.secret tells.told tells.earlier few) (state h).providers (all_told h))
 
 none_found : {A : Type 0} (p : A → Bool) (xs : List A) → AllByRecursion (λ x. p x ≡ false) xs → find p xs ≡ None
@@ -124,7 +124,7 @@ no_admin o founding n secret is formed = ap (λ f. is_admin f (token_text n secr
     by_test false at = refl
     by_test true at =
         let alike : founding.admin ≡ token_text n secret = same_text founding.admin (token_text n secret) (sym at) in
-        absurd (true≢false (sym (and_right _ (list_all is_ascii_alphanumeric founding.admin) formed) ∙ (ap (list_all is_ascii_alphanumeric) alike ∙ hyphened n secret)))
+        absurd (true≢false (sym (second_so _ (list_all is_ascii_alphanumeric founding.admin) formed) ∙ (ap (list_all is_ascii_alphanumeric) alike ∙ hyphened n secret)))
 
 -- ---- the law
 

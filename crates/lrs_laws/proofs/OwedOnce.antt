@@ -4,7 +4,8 @@ use Rattle.std.specs.Fmt.{decimal}
 use Rattle.std.specs.Prelude.{filter}
 use Rattle.std.specs.Str.{bytes_eq}
 use Rattle.std.specs.Cmp.Lexicographic.{same_text}
-use Rattle.std.proofs.lemmas.Bool.{cases_eq, eq-eqb, ne_eqb}
+use Rattle.std.specs.Cmp.{first_so, second_so}
+use Rattle.std.proofs.lemmas.Bool.{cases_eq, eq-eqb, ne_eqb, not-true}
 use Rattle.std.proofs.lemmas.Fmt.{decimal_injective}
 use Rattle.std.proofs.lemmas.List.{append_cancel_left}
 use Rattle.cmi5_course.specs.declared.course.Node.{Node}
@@ -13,7 +14,6 @@ use Rattle.cmi5_launch.specs.Names.{satisfied}
 use Rattle.cmi5_verdict.specs.Nodes.{SeenEnrolment, activity_of_node, at_depth, depth_of, from_depth, is_owed, is_satisfied, is_unit_in, owed, indices}
 use Rattle.cmi5_verdict.specs.Units.{was_said}
 use Rattle.lrs_laws.proofs.Counting.{many, many-append, many_filter, one_in_row, some_passes}
-use Rattle.lrs_laws.proofs.NewIds.{and_left, and_right, not_true}
 use Rattle.xapi_statement.specs.Stored.{StoredStatement}
 
 -- ---- by depth
@@ -97,9 +97,9 @@ owed_once e statements registration activity few = by_some (some_passes due (ind
 
     it_is : (p : ℕ) → due p ≡ true → (e.registration ≡ registration) × (activity_of_node e p ≡ activity)
     it_is p is =
-        let both : is_that_node e registration activity p ≡ true = and_right (is_owed e statements p) (is_that_node e registration activity p) is in (
-          same_text e.registration registration (sym (and_left (bytes_eq e.registration registration) (bytes_eq (activity_of_node e p) activity) both)),
-          same_text (activity_of_node e p) activity (sym (and_right (bytes_eq e.registration registration) (bytes_eq (activity_of_node e p) activity) both)),
+        let both : is_that_node e registration activity p ≡ true = second_so (is_owed e statements p) (is_that_node e registration activity p) is in (
+          same_text e.registration registration (sym (first_so (bytes_eq e.registration registration) (bytes_eq (activity_of_node e p) activity) both)),
+          same_text (activity_of_node e p) activity (sym (second_so (bytes_eq e.registration registration) (bytes_eq (activity_of_node e p) activity) both)),
         )
 
     alike : (j k : ℕ) → j < length e.nodes → k < length e.nodes → due j ≡ true → due k ≡ true → j ≡ k
@@ -111,9 +111,9 @@ owed_once e statements registration activity few = by_some (some_passes due (ind
     unsaid : (p : ℕ) → due p ≡ true → was_said statements registration activity satisfied ≡ false
     unsaid p is =
         let never : was_said statements e.registration (activity_of_node e p) satisfied ≡ false =
-        not_true (was_said statements e.registration (activity_of_node e p) satisfied)
-        (and_right (not (is_unit_in e.nodes p) && is_satisfied e statements p) (not (was_said statements e.registration (activity_of_node e p) satisfied))
-        (and_left (is_owed e statements p) (is_that_node e registration activity p) is)) in
+        not-true (was_said statements e.registration (activity_of_node e p) satisfied)
+        (second_so (not (is_unit_in e.nodes p) && is_satisfied e statements p) (not (was_said statements e.registration (activity_of_node e p) satisfied))
+        (first_so (is_owed e statements p) (is_that_node e registration activity p) is)) in
         ap (λ r. was_said statements r activity satisfied) (sym (it_is p is).0) ∙ (ap (λ a. was_said statements e.registration a satisfied) (sym (it_is p is).1) ∙ never)
 
     by_some : (many due (indices e.nodes) ≡ 0) ⊎ ((p : ℕ) × (due p ≡ true)) → IsOwedOnce e statements registration activity

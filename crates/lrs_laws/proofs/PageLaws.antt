@@ -3,6 +3,7 @@ use Rattle.std.proofs.Common.{◌≡◌, ◌≢◌, ℕ, zero, suc, ◌+◌, ◌
 use Rattle.std.specs.Prelude.{◌&&◌, filter, filter_map, slice_get, MatchOption, if◌then◌else◌}
 use Rattle.std.specs.List.{AllByRecursion, cons_option, range_with_len}
 use Rattle.std.specs.Option.{option_or}
+use Rattle.std.specs.Cmp.{first_so, second_so}
 use Rattle.std.proofs.lemmas.Bool.Decides.{nat_tests}
 use Rattle.std.proofs.lemmas.List.{append-nil, length-drop, length-take, reverse-append, take-append-drop, take-append-le}
 use Rattle.std.proofs.Math.Seq.{take-append_seam, take-length}
@@ -19,9 +20,8 @@ use Rattle.lrs_history.specs.Whose.{acts_in_session, known_as, sight_in as sight
 use Rattle.lrs_json.specs.Written.{written}
 use Rattle.lrs_laws.specs.Laws.{FirstPagesAreTold, FollowsLinks, LinksGoOn, LinksStay, LinksWhereMoreComes, PagesEnd, PagesGiveTheList, PositionsComeOnce, IsLetIn, sight_in, who_in}
 use Rattle.lrs_laws.proofs.Keepers.{state_from-append}
-use Rattle.lrs_laws.proofs.Lists.{slice_get-append}
-use Rattle.lrs_laws.proofs.NewIds.{and_left, and_right}
-use Rattle.lrs_laws.proofs.Paging.{IsInOrder, Links, distinct_in_order, each_at, each_filtered, filtered_in_order, linked, positions_in_order, unlinked}
+use Rattle.lrs_laws.proofs.Lists.{each_at, slice_get-append}
+use Rattle.lrs_laws.proofs.Paging.{IsInOrder, Links, distinct_in_order, each_filtered, filtered_in_order, linked, positions_in_order, unlinked}
 use Rattle.lrs_laws.proofs.GivenTokens.{launch_on, no_provider_on, state_length, token_given}
 use Rattle.lrs_laws.proofs.Launched.{launched_on, session_launched}
 use Rattle.lrs_state.proofs.Keys.{index_kept}
@@ -232,10 +232,10 @@ founding_on st [] founding is = is
 founding_on st (e ∷ more) founding is = founding_on (step st e) more founding (ap (λ o. founding_after o (effect st e).founding) is)
 
 founded : (e : Entry) → IsFounding e → (founding : Founding) × ((step nothing e).founding ≡ Some founding) × (is_token founding.admin ≡ true)
-founded e is = by_write e.write (and_right (is_operator e.caller && is_zero e.draw) (founds e.write) is)
+founded e is = by_write e.write (second_so (is_operator e.caller && is_zero e.draw) (founds e.write) is)
   where
     by_write : (w : Write) → founds w ≡ true → (founding : Founding) × ((step nothing (record e { write = w })).founding ≡ Some founding) × (is_token founding.admin ≡ true)
-    by_write (Found admin base) is = (record { admin = admin; base = base }, refl, and_left (is_token admin) (is_base base) is)
+    by_write (Found admin base) is = (record { admin = admin; base = base }, refl, first_so (is_token admin) (is_base base) is)
     by_write other is = absurd (cc is)
 
 pub has_founding : (limit : ℕ) (h : List Entry) → IsLegal limit h → (founding : Founding) × ((state h).founding ≡ Some founding) × (is_token founding.admin ≡ true)
@@ -255,22 +255,22 @@ who_on h su Operator founding known acts is = refl
 who_on h su (Token token) founding known acts is =
     ap (λ f. if is_admin f token then who.Admin else known_as (index_of_token token su.providers) (launch_of_token token su.tokens)) founding ∙ by_admin (is_admin (state h).founding token) refl is
   where
-    by_places : (o p : Option ℕ) → index_of_token token (state h).providers ≡ o → launch_of_token token (state h).tokens ≡ p → is_admin (state h).founding token ≡ false → barred Store (known_as o p) ≡ None
+    by_indices : (o p : Option ℕ) → index_of_token token (state h).providers ≡ o → launch_of_token token (state h).tokens ≡ p → is_admin (state h).founding token ≡ false → barred Store (known_as o p) ≡ None
         → known_as (index_of_token token su.providers) (launch_of_token token su.tokens) ≡ known_as o p
-    by_places None None at in_session no_admin let_in = cc let_in
-    by_places None (Some k) at in_session no_admin let_in =
+    by_indices None None at in_session no_admin let_in = cc let_in
+    by_indices None (Some k) at in_session no_admin let_in =
         let by : who_is (state h) (Token token) ≡ who.Session k =
         ap (λ b. if b then who.Admin else known_as (index_of_token token (state h).providers) (launch_of_token token (state h).tokens)) no_admin
         ∙ (ap (λ o. known_as o (launch_of_token token (state h).tokens)) at ∙ ap (known_as None) in_session) in
         let later = acts token k by at in_session in
         ap (λ o. known_as o (launch_of_token token su.tokens)) later.0 ∙ ap (known_as None) later.1
-    by_places (Some k) p at in_session no_admin let_in = ap (λ o. known_as o (launch_of_token token su.tokens)) (known token k at)
+    by_indices (Some k) p at in_session no_admin let_in = ap (λ o. known_as o (launch_of_token token su.tokens)) (known token k at)
 
     by_admin : (b : Bool) → is_admin (state h).founding token ≡ b → barred Store (if b then who.Admin else known_as (index_of_token token (state h).providers) (launch_of_token token (state h).tokens)) ≡ None
         → (if b then who.Admin else known_as (index_of_token token su.providers) (launch_of_token token su.tokens))
         ≡ (if b then who.Admin else known_as (index_of_token token (state h).providers) (launch_of_token token (state h).tokens))
     by_admin true admin let_in = refl
-    by_admin false no_admin let_in = by_places (index_of_token token (state h).providers) (launch_of_token token (state h).tokens) refl refl no_admin let_in
+    by_admin false no_admin let_in = by_indices (index_of_token token (state h).providers) (launch_of_token token (state h).tokens) refl refl no_admin let_in
 
 who_stays : (limit : ℕ) (h more : List Entry) (caller : Caller) → IsLegal limit h → (acts_in_session (who_in h caller) ≡ true → length (h ++ more) < 2 ^ 64) → IsLetIn h caller → who_in (h ++ more) caller ≡ who_in h caller
 who_stays limit h more caller legal few let_in =

@@ -6,6 +6,8 @@ use Rattle.std.proofs.lemmas.Bool.{false≢true, eqb-true}
 use Rattle.std.proofs.lemmas.Bool.Decides.{nat_tests}
 use Rattle.std.proofs.lemmas.List.{length-take-le, reverse-append}
 use Rattle.xapi_pages.specs.Listings.{first_page, is_behind, last_of, positions_of}
+use Rattle.lrs_laws.proofs.Lists.{each_at, each_push}
+use Rattle.xapi_index.proofs.Firsts.{lt_no, lt_yes}
 
 -- each of them comes after those before it
 abbrev pub IsInOrder : Bool → List ℕ → Type 0
@@ -17,47 +19,37 @@ IsInOrder ascending (k ∷ ks) = AllByRecursion (λ j. is_behind ascending (Some
 less : (a b : ℕ) → nat_lt a b ≡ true → a < b
 less a b is = grind (arith, nat_tests)
 
-is_less : (a b : ℕ) → a < b → nat_lt a b ≡ true
-is_less a b is = grind (arith, nat_tests)
-
-isnt_less : (a b : ℕ) → b ≤ a → nat_lt a b ≡ false
-isnt_less a b is = grind (arith, nat_tests)
-
 -- nothing follows itself, and of two only one after the other
 pub apart : (ascending : Bool) (j k : ℕ) → is_behind ascending (Some j) k ≡ true → is_behind ascending (Some k) j ≡ false
-apart true j k is = let h = less j k is in isnt_less k j (omega arith)
-apart false j k is = let h = less k j is in isnt_less j k (omega arith)
+apart true j k is = let h = less j k is in lt_no k j (omega arith)
+apart false j k is = let h = less k j is in lt_no j k (omega arith)
 
 pub alone : (ascending : Bool) (k : ℕ) → is_behind ascending (Some k) k ≡ false
-alone true k = isnt_less k k (omega arith)
-alone false k = isnt_less k k (omega arith)
+alone true k = lt_no k k (omega arith)
+alone false k = lt_no k k (omega arith)
 
 pub further : (ascending : Bool) (after : Option ℕ) (k j : ℕ) → is_behind ascending after k ≡ true → is_behind ascending (Some k) j ≡ true → is_behind ascending after j ≡ true
 further ascending None k j first next = refl
-further true (Some after) k j first next = let a = less after k first in let b = less k j next in is_less after j (omega arith)
-further false (Some after) k j first next = let a = less k after first in let b = less j k next in is_less j after (omega arith)
+further true (Some after) k j first next = let a = less after k first in let b = less k j next in lt_yes after j (omega arith)
+further false (Some after) k j first next = let a = less k after first in let b = less j k next in lt_yes j after (omega arith)
 
 -- ---- all positions are in order
 
 above : (a n : ℕ) (b : ℕ) → b < a → AllByRecursion (λ j. is_behind true (Some b) j ≡ true) (range_with_len a n)
 above a zero b lt = tt
-above a (suc n) b lt = (is_less b a lt, above (a + 1) n b (omega arith))
+above a (suc n) b lt = (lt_yes b a lt, above (a + 1) n b (omega arith))
 
 range_in_order : (a n : ℕ) → IsInOrder true (range_with_len a n)
 range_in_order a zero = tt
 range_in_order a (suc n) = (above (a + 1) n a (omega arith), range_in_order (a + 1) n)
 
-each_append : {A : Type 0} (P : A → Type 0) (xs : List A) (y : A) → AllByRecursion P xs → P y → AllByRecursion P (xs ++ y ∷ [])
-each_append P [] y each p = (p, tt)
-each_append P (x ∷ xs) y each p = (each.0, each_append P xs y each.1 p)
-
 each_reversed : {A : Type 0} (P : A → Type 0) (xs : List A) → AllByRecursion P xs → AllByRecursion P (reverse xs)
 each_reversed P [] each = tt
-each_reversed P (x ∷ xs) each = subst (λ ys. AllByRecursion P ys) (sym (reverse-append (x ∷ []) xs)) (each_append P (reverse xs) x (each_reversed P xs each.1) each.0)
+each_reversed P (x ∷ xs) each = subst (λ ys. AllByRecursion P ys) (sym (reverse-append (x ∷ []) xs)) (each_push P (reverse xs) x (each_reversed P xs each.1) each.0)
 
 order_push : (ascending : Bool) (ks : List ℕ) (k : ℕ) → IsInOrder ascending ks → AllByRecursion (λ j. is_behind ascending (Some j) k ≡ true) ks → IsInOrder ascending (ks ++ k ∷ [])
 order_push ascending [] k order last = (tt, tt)
-order_push ascending (j ∷ ks) k order last = (each_append (λ i. is_behind ascending (Some j) i ≡ true) ks k order.0 last.0, order_push ascending ks k order.1 last.1)
+order_push ascending (j ∷ ks) k order last = (each_push (λ i. is_behind ascending (Some j) i ≡ true) ks k order.0 last.0, order_push ascending ks k order.1 last.1)
 
 turned : (ks : List ℕ) → IsInOrder true ks → IsInOrder false (reverse ks)
 turned [] order = tt
@@ -100,11 +92,6 @@ filter_twice p q narrower (k ∷ ks) = by_tests (q k) (p k) refl refl (filter_tw
 filter_all : (test : ℕ → Bool) (ks : List ℕ) → AllByRecursion (λ k. test k ≡ true) ks → filter test ks ≡ ks
 filter_all test [] each = refl
 filter_all test (k ∷ ks) each = ap (λ b. cond b (k ∷ filter test ks) (filter test ks)) each.0 ∙ ap (λ js. k ∷ js) (filter_all test ks each.1)
-
-pub each_at : {A : Type 0} (P : A → Type 0) (xs : List A) (i : ℕ) (x : A) → AllByRecursion P xs → slice_get xs i ≡ Some x → P x
-each_at P [] i x each at = cc at
-each_at P (y ∷ xs) zero x each at = let e : y ≡ x = cc at in subst P e each.0
-each_at P (y ∷ xs) (suc i) x each at = each_at P xs i x each.1 at
 
 -- after the last of the first ones come the others
 rest_behind : (ascending : Bool) (ks : List ℕ) (m last : ℕ) → IsInOrder ascending ks → slice_get ks m ≡ Some last → filter (is_behind ascending (Some last)) ks ≡ drop (suc m) ks

@@ -9,11 +9,12 @@ use Rattle.cmi5_course.specs.declared.course.Node.{Node}
 use Rattle.cmi5_course.specs.declared.launch.Launch.{Launch}
 use Rattle.cmi5_launch.specs.Made.{Saying, said_satisfied, saying_json}
 use Rattle.cmi5_launch.specs.Names.{satisfied}
+use Rattle.cmi5_session.specs.Counting.{counts}
 use Rattle.cmi5_session.specs.Own.{is_cmi5_defined, says}
 use Rattle.cmi5_session.specs.Rules.{broken_defined, verb_named}
 use Rattle.cmi5_session.specs.Views.{SeenSession, view_of}
 use Rattle.cmi5_verdict.specs.Nodes.{activity_of_node}
-use Rattle.cmi5_verdict.specs.Units.{counts, counts_among, was_said}
+use Rattle.cmi5_verdict.specs.Units.{counts_among, was_said}
 use Rattle.lrs_agents.specs.declared.agents.Agent.{Agent}
 use Rattle.lrs_history.specs.Effects.{new_by}
 use Rattle.lrs_history.specs.Enrolments.{Enrolled, enrolment_of, owed_behind}

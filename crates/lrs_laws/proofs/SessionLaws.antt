@@ -15,7 +15,7 @@ use Rattle.lrs_history.specs.Answers.{read_said, write_said}
 use Rattle.lrs_history.specs.Effects.{effect}
 use Rattle.lrs_history.specs.Occasions.{occasion}
 use Rattle.lrs_history.specs.History.{answer, end_offset, next_entry, state}
-use Rattle.lrs_history.specs.Refusals.{bad_form, bad_role, barred, conflict, missing, read_refusal, refusal, refused_inside, unmergeable}
+use Rattle.lrs_history.specs.Refusals.{bad_form, barred_document, barred, conflict, missing, read_refusal, refusal, refused_inside, unmergeable}
 use Rattle.lrs_history.specs.Sessions.{is_its_own, outside, over_state, overstepped}
 use Rattle.lrs_history.specs.Whose.{known_as, launch_of, sight_in as sight_in_launch, sight_of}
 use Rattle.lrs_ids.specs.Choices.{first_some, when}
@@ -105,13 +105,13 @@ other_state (Some state) is = (state, refl, by_same (bytes_eq state launch_data_
 its_launch : (h : List Entry) (caller : Caller) (launch : Launch) → ActsInSession h caller launch → launch_of (state h) (who_in h caller) ≡ Some launch
 its_launch h caller launch acts = ap (launch_of (state h)) acts.known ∙ acts.launched
 
--- the role of a write that isn't refused is right
-right_role : (limit : ℕ) (h : List Entry) (caller : Caller) (w : Write) (clock : ℕ) (draw : Draw) → IsAccepted (answer limit h caller (command.Write w) clock draw) → bad_role (state h) (who_in h caller) w ≡ None
-right_role limit h caller w clock draw is =
+-- a write that isn't refused oversteps no session
+right_document : (limit : ℕ) (h : List Entry) (caller : Caller) (w : Write) (clock : ℕ) (draw : Draw) → IsAccepted (answer limit h caller (command.Write w) clock draw) → barred_document (state h) (who_in h caller) w ≡ None
+right_document limit h caller w clock draw is =
     let st = state h in
     let x : Entry = next_entry st caller w clock draw in
     let free = unrefused limit (end_offset limit h) x (write_said (effect st x)) (refusal st x) (when (changes_nothing (effect st x)) (write_said (effect st x))) is in
-    (no_reason (barred (write_area w) (who_in h caller) ∷ bad_form w ∷ bad_role st (who_in h caller) w ∷ missing st w ∷ unmergeable st w ∷ conflict st (occasion st x) w ∷ []) free).1.1.0
+    (no_reason (barred (write_area w) (who_in h caller) ∷ bad_form w ∷ barred_document st (who_in h caller) w ∷ missing st w ∷ unmergeable st w ∷ conflict st (occasion st x) w ∷ []) free).1.1.0
 
 -- what a question that isn't refused asks for is inside
 right_question : (limit : ℕ) (h : List Entry) (caller : Caller) (r : Read) (clock : ℕ) (draw : Draw) → IsAccepted (answer limit h caller (command.Read r) clock draw) → refused_inside (state h) (who_in h caller) r ≡ None
@@ -125,10 +125,10 @@ the_same a b is = cc is
 pub sessions_keep_to_their_documents : SessionsKeepToTheirDocuments
 sessions_keep_to_their_documents limit h caller launch (command.Write (write.State how key media bytes)) clock draw agent registration acts asks is =
     subst (λ (p : Ifi × Option (List ℕ)). is_its_own launch p.0 p.1 ≡ true) (the_same (key.agent, key.registration) (agent, registration) asks)
-    (not_overstepped launch (launch_of (state h) (who_in h caller)) key.agent key.registration (Some key.state) (its_launch h caller launch acts) (right_role limit h caller (write.State how key media bytes) clock draw is))
+    (not_overstepped launch (launch_of (state h) (who_in h caller)) key.agent key.registration (Some key.state) (its_launch h caller launch acts) (right_document limit h caller (write.State how key media bytes) clock draw is))
 sessions_keep_to_their_documents limit h caller launch (command.Write (Drop activity whose theirs chosen)) clock draw agent registration acts asks is =
     subst (λ (p : Ifi × Option (List ℕ)). is_its_own launch p.0 p.1 ≡ true) (the_same (whose, theirs) (agent, registration) asks)
-    (not_overstepped launch (launch_of (state h) (who_in h caller)) whose theirs chosen (its_launch h caller launch acts) (right_role limit h caller (Drop activity whose theirs chosen) clock draw is))
+    (not_overstepped launch (launch_of (state h) (who_in h caller)) whose theirs chosen (its_launch h caller launch acts) (right_document limit h caller (Drop activity whose theirs chosen) clock draw is))
 sessions_keep_to_their_documents limit h caller launch (command.Read (Documents (One key))) clock draw agent registration acts asks is =
     subst (λ (p : Ifi × Option (List ℕ)). is_its_own launch p.0 p.1 ≡ true) (the_same (key.agent, key.registration) (agent, registration) asks)
     (not_outside launch (launch_of (state h) (who_in h caller)) key.agent key.registration (its_launch h caller launch acts)
@@ -146,9 +146,9 @@ pub sessions_keep_launch_data : SessionsKeepLaunchData
 sessions_keep_launch_data limit h caller launch (command.Write (write.State how key media bytes)) clock draw chosen acts asks is =
     subst IsOther (same_choice (Some key.state) chosen asks)
     (other_state (Some key.state) (spared launch (launch_of (state h) (who_in h caller)) key.agent key.registration (Some key.state) (its_launch h caller launch acts)
-    (right_role limit h caller (write.State how key media bytes) clock draw is)))
+    (right_document limit h caller (write.State how key media bytes) clock draw is)))
 sessions_keep_launch_data limit h caller launch (command.Write (Drop activity whose theirs dropped)) clock draw chosen acts asks is =
     subst IsOther (same_choice dropped chosen asks)
     (other_state dropped (spared launch (launch_of (state h) (who_in h caller)) whose theirs dropped (its_launch h caller launch acts)
-    (right_role limit h caller (Drop activity whose theirs dropped) clock draw is)))
+    (right_document limit h caller (Drop activity whose theirs dropped) clock draw is)))
 sessions_keep_launch_data limit h caller launch other clock draw chosen acts asks is = cc asks

@@ -4,7 +4,9 @@ use Rattle.std.specs.Prelude.{option_map, slice_get, if◌then◌else◌}
 use Rattle.std.specs.List.{AllByRecursion}
 use Rattle.std.specs.Str.{bytes_eq}
 use Rattle.std.specs.Cmp.Lexicographic.{same_text}
+use Rattle.std.specs.Cmp.{first_so, second_so}
 use Rattle.std.proofs.lemmas.Cmp.{nat_list_eq_equiv}
+use Rattle.std.proofs.lemmas.Bool.{and_from}
 use Rattle.cmi5_course.specs.declared.launch.Launch.{Launch}
 use Rattle.cmi5_launch.specs.Names.{initialized, terminated}
 use Rattle.cmi5_session.specs.Own.{is_of_session, says}
@@ -16,7 +18,6 @@ use Rattle.lrs_json.specs.View.{view}
 use Rattle.lrs_laws.proofs.DeskStatements.{IsOfDesk, own_verbs}
 use Rattle.lrs_laws.proofs.Lists.{each_weaker}
 use Rattle.lrs_laws.proofs.MayFollow.{AreInOrder, follows, own_append, own_push}
-use Rattle.lrs_laws.proofs.NewIds.{and_left, and_right, both_true}
 use Rattle.lrs_laws.proofs.Walking.{KeptByDesk, KeptByWrites, SpeaksIn, Steps, its_authority, its_new, its_rule, over_legal}
 use Rattle.lrs_laws.specs.Speaking.{SessionsSpeakInOrder, are_in_order, goes_on, is_between, own_statements}
 use Rattle.lrs_state.specs.State.{State, is_empty}
@@ -74,7 +75,7 @@ goes_without [] x behind on = by_end (says terminated (view x.received)) on
 
     by_end : (b : Bool) → (if b then is_empty behind else is_between (view x.received) && goes_on behind) ≡ true → goes_on behind ≡ true
     by_end true none = nothing_left behind none
-    by_end false more = and_right (is_between (view x.received)) (goes_on behind) more
+    by_end false more = second_so (is_between (view x.received)) (goes_on behind) more
 goes_without (f ∷ front) x behind on = by_end (says terminated (view f.received)) on (λ rest. goes_without front x behind rest)
   where
     by_end : (b : Bool) → (if b then is_empty (front ++ x ∷ behind) else is_between (view f.received) && goes_on (front ++ x ∷ behind)) ≡ true
@@ -82,14 +83,14 @@ goes_without (f ∷ front) x behind on = by_end (says terminated (view f.receive
         → (if b then is_empty (front ++ behind) else is_between (view f.received) && goes_on (front ++ behind)) ≡ true
     by_end true none more = cc (sym (some_behind front x behind) ∙ none)
     by_end false both more =
-        both_true (is_between (view f.received)) (goes_on (front ++ behind)) (and_left (is_between (view f.received)) (goes_on (front ++ x ∷ behind)) both)
-        (more (and_right (is_between (view f.received)) (goes_on (front ++ x ∷ behind)) both))
+        and_from (is_between (view f.received)) (goes_on (front ++ behind)) (first_so (is_between (view f.received)) (goes_on (front ++ x ∷ behind)) both)
+        (more (second_so (is_between (view f.received)) (goes_on (front ++ x ∷ behind)) both))
 
 order_without : (ss : List StoredStatement) (x : StoredStatement) (behind : List StoredStatement) → is_empty ss ≡ false → are_in_order (ss ++ x ∷ behind) ≡ true → are_in_order (ss ++ behind) ≡ true
 order_without [] x behind some order = cc some
 order_without (s ∷ ss) x behind some order =
-    both_true (says initialized (view s.received)) (goes_on (ss ++ behind)) (and_left (says initialized (view s.received)) (goes_on (ss ++ x ∷ behind)) order)
-    (goes_without ss x behind (and_right (says initialized (view s.received)) (goes_on (ss ++ x ∷ behind)) order))
+    and_from (says initialized (view s.received)) (goes_on (ss ++ behind)) (first_so (says initialized (view s.received)) (goes_on (ss ++ x ∷ behind)) order)
+    (goes_without ss x behind (second_so (says initialized (view s.received)) (goes_on (ss ++ x ∷ behind)) order))
 
 some_on : (ss more : List StoredStatement) → is_empty ss ≡ false → is_empty (ss ++ more) ≡ false
 some_on [] more some = cc some

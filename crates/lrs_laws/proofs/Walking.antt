@@ -3,6 +3,8 @@ use Rattle.std.proofs.Common.{◌≡◌, ℕ, List, [], ◌∷◌, ◌++◌, Boo
 use Rattle.std.specs.Prelude.{is_some, option_and_then, option_map, slice_get, if◌then◌else◌}
 use Rattle.std.specs.List.{AllByRecursion}
 use Rattle.std.specs.Str.{bytes_eq}
+use Rattle.std.specs.Cmp.{second_so}
+use Rattle.std.proofs.lemmas.Bool.{or_right}
 use Rattle.cmi5_course.specs.declared.launch.Launch.{Launch}
 use Rattle.cmi5_launch.specs.Names.{satisfied}
 use Rattle.cmi5_session.specs.Own.{is_cmi5_defined}
@@ -15,7 +17,7 @@ use Rattle.lrs_history.specs.Occasions.{Occasion, occasion}
 use Rattle.lrs_history.specs.DeskEffects.{abandoning_one, enrolling, fetching, launching, sweeping, waiving}
 use Rattle.lrs_history.specs.History.{ComesNext, IsLegal, IsLegalFrom, founds, is_operator, is_zero, state}
 use Rattle.lrs_history.specs.Launches.{target}
-use Rattle.lrs_history.specs.Refusals.{bad_form, bad_role, barred, before_next, broken_by, conflict, forbidden, missing, refused_in, refused_over, refused_under, told_forbidden, unmergeable}
+use Rattle.lrs_history.specs.Refusals.{bad_form, barred_document, barred, before_next, broken_by, conflict, forbidden, missing, refused_in, refused_over, refused_under, told_forbidden, unmergeable}
 use Rattle.lrs_history.specs.Sessions.{is_abandoned}
 use Rattle.lrs_history.specs.Whose.{authority_of, launch_of}
 use Rattle.lrs_ids.specs.Choices.{when}
@@ -25,11 +27,9 @@ use Rattle.lrs_json.specs.View.{view}
 use Rattle.lrs_json.specs.declared.tree.Tree.{Tree}
 use Rattle.lrs_laws.proofs.Accepting.{accepted}
 use Rattle.lrs_laws.proofs.Again.{first_none, no_reason, old_one}
-use Rattle.lrs_laws.proofs.DeskStatements.{IsOfDesk, Owes, Tells, deeds, owed_of_desk, owes_in_session, own_verbs, tells_ending, tells_enrolment, tells_fetch, tells_launch, tells_sweep, tells_waiver}
-use Rattle.lrs_laws.proofs.Keepers.{add_each-append}
+use Rattle.lrs_laws.proofs.DeskStatements.{IsOfDesk, Owes, TellsDeeds, deeds, owed_of_desk, owes_in_session, own_verbs, tells_ending, tells_enrolment, tells_fetch, tells_launch, tells_sweep, tells_waiver}
 use Rattle.lrs_laws.proofs.Launched.{after_one}
 use Rattle.lrs_laws.proofs.Lists.{each_append, each_weaker}
-use Rattle.lrs_laws.proofs.NewIds.{and_right, or_right}
 use Rattle.lrs_laws.proofs.Permitted.{permitted, when_none}
 use Rattle.lrs_laws.proofs.Registered.{AreIds, MakesIds, all_ids, makes_ids}
 use Rattle.lrs_names.specs.Members.{is_one_of}
@@ -45,6 +45,7 @@ use Rattle.lrs_record.specs.declared.entry.Write.TheVariants as write
 use Rattle.xapi_format.specs.declared.authority.Authority.{Authority}
 use Rattle.xapi_format.specs.declared.authority.Authority.TheVariants.{Session}
 use Rattle.xapi_index.specs.Batches.{WithId, held_of, id_for, kept_by, supply_after, supply_behind, with_ids}
+use Rattle.xapi_index.proofs.Adding.{add_each-append}
 use Rattle.xapi_statement.specs.Statements.{add_each, held_under, is_held, new_ones}
 use Rattle.xapi_statement.specs.Statement.{own_id, verb_of}
 use Rattle.xapi_statement.specs.Stored.{StoredStatement}
@@ -134,7 +135,7 @@ module _ (Q : List StoredStatement → Type 0) (writes : KeptByWrites Q) (deed :
       let more : List StoredStatement = owed_in_session st supply at.moment new (launch_of st at.by) in
       subst Q (sym (add_each-append st.statements new more)) (owed new more (owes_in_session st supply at.moment new (launch_of st at.by) ids) (writes st at ns met is))
 
-  kept_by_store : (x : Effect) → Tells st x → Q (add_each st.statements x.statements)
+  kept_by_store : (x : Effect) → TellsDeeds st x → Q (add_each st.statements x.statements)
   kept_by_store x tells =
       subst (λ ss. Q (add_each st.statements ss)) (sym tells.whole)
       (subst Q (sym (add_each-append st.statements tells.told tells.owed)) (owed tells.told tells.owed tells.owes (deed st.statements tells.told tells.by_desk is)))
@@ -156,7 +157,7 @@ module _ (Q : List StoredStatement → Type 0) (writes : KeptByWrites Q) (deed :
 
 -- an entry of a legal history was in no conflict
 pub unopposed : (limit : ℕ) (h : List Entry) (e : Entry) → ComesNext limit h e → conflict (state h) (occasion (state h) e) e.write ≡ None
-unopposed limit [] e next = by_write e.write (and_right (is_operator e.caller && is_zero e.draw) (founds e.write) next)
+unopposed limit [] e next = by_write e.write (second_so (is_operator e.caller && is_zero e.draw) (founds e.write) next)
   where
     by_write : (w : Write) → founds w ≡ true → conflict nothing (occasion nothing e) w ≡ None
     by_write (Found admin base) is = refl
@@ -164,7 +165,7 @@ unopposed limit [] e next = by_write e.write (and_right (is_operator e.caller &&
 unopposed limit (first ∷ more) e next =
     let st : State = state (first ∷ more) in
     let at : Occasion = occasion st e in
-    (no_reason (barred (write_area e.write) at.by ∷ bad_form e.write ∷ bad_role st at.by e.write ∷ missing st e.write ∷ unmergeable st e.write ∷ conflict st at e.write ∷ [])
+    (no_reason (barred (write_area e.write) at.by ∷ bad_form e.write ∷ barred_document st at.by e.write ∷ missing st e.write ∷ unmergeable st e.write ∷ conflict st at e.write ∷ [])
     (accepted limit (first ∷ more) e next).free).1.1.1.1.1.0
 
 -- What holds of no entry, and of one more that may come next, holds of every legal history.

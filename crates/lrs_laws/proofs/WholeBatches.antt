@@ -4,7 +4,8 @@ use Rattle.std.specs.Prelude.{position, slice_get, is_some, option_map, if◌the
 use Rattle.std.specs.List.{AllByRecursion}
 use Rattle.std.specs.Option.{option_or}
 use Rattle.std.specs.Str.{bytes_eq}
-use Rattle.std.proofs.lemmas.Bool.{false≢true}
+use Rattle.std.specs.Cmp.{first_so, second_so}
+use Rattle.std.proofs.lemmas.Bool.{false≢true, not-true}
 use Rattle.std.proofs.lemmas.Cmp.{nat_list_eq_equiv}
 use Rattle.std.proofs.lemmas.List.{map-append}
 use Rattle.std.proofs.lemmas.List.Folds.{find-append, list_any-append}
@@ -24,10 +25,10 @@ use Rattle.lrs_json.specs.View.{view}
 use Rattle.lrs_json.specs.declared.tree.Tree.{Tree}
 use Rattle.lrs_laws.specs.Laws.{BatchesAreWhole, CallersHaveAuthority, IsAccepted, IsHeldSame, PutsAreHeld, batch_with_ids, occasion_of}
 use Rattle.lrs_laws.proofs.Again.{first_none, no_reason}
-use Rattle.lrs_laws.proofs.Keepers.{add_each-append, held_one, left_false, or_false, right_false, state_from-append, stays_each}
+use Rattle.lrs_laws.proofs.Keepers.{held_one, left_false, or_false, right_false, state_from-append, stays_each}
 use Rattle.lrs_laws.proofs.Launched.{AreLaunched, all_launched, token_launched}
 use Rattle.lrs_laws.proofs.Lists.{each_weaker}
-use Rattle.lrs_laws.proofs.NewIds.{batch_distinct, batch_new, not_true, and_left, and_right}
+use Rattle.lrs_laws.proofs.NewIds.{batch_distinct, batch_new}
 use Rattle.lrs_names.specs.Members.{is_one_of}
 use Rattle.cmi5_course.specs.declared.launch.Launch.{Launch}
 use Rattle.lrs_state.specs.Launches.{launch_of_token}
@@ -50,7 +51,7 @@ use Rattle.xapi_index.specs.Batches.{WithId, held_of, id_for, kept_by, with_ids,
 use Rattle.lrs_ids.specs.Choices.{when}
 use Rattle.lrs_ids.specs.Ids.{Supply, are_distinct}
 use Rattle.xapi_statement.specs.Statements.{add, add_each, held_under, ids_of, is_held, new_ones}
-use Rattle.xapi_index.proofs.Adding.{add-new, add_each-new}
+use Rattle.xapi_index.proofs.Adding.{add-new, add_each-append, add_each-new}
 use Rattle.xapi_statement.specs.Stored.{StoredStatement}
 use Rattle.xapi_statement.specs.Statement.{own_id}
 
@@ -97,7 +98,7 @@ is_behind_it limit offset h x t xs owed new =
       refl,
       [],
       none_new held xs (none_first (new_ones held xs) owed
-          (ap (λ l. is_empty l) (sym new) ∙ and_right _ (is_empty (effect (state h) x).statements) (and_left _ (changes_no_learning (effect (state h) x)) same))),
+          (ap (λ l. is_empty l) (sym new) ∙ second_so _ (is_empty (effect (state h) x).statements) (first_so _ (changes_no_learning (effect (state h) x)) same))),
     ))
     (λ none. (
       none,
@@ -121,19 +122,19 @@ known st Nobody launched is = cc is
 known st Operator launched is = (Admin, refl)
 known st (Token token) launched is = by_admin (is_admin st.founding token) is
   where
-    by_places : (o p : Option ℕ) → index_of_token token st.providers ≡ o → launch_of_token token st.tokens ≡ p → barred Store (known_as o p) ≡ None → IsKnown st (known_as o p)
-    by_places None None at acts is = cc is
-    by_places None (Some k) at acts is =
+    by_indices : (o p : Option ℕ) → index_of_token token st.providers ≡ o → launch_of_token token st.tokens ≡ p → barred Store (known_as o p) ≡ None → IsKnown st (known_as o p)
+    by_indices None None at acts is = cc is
+    by_indices None (Some k) at acts is =
         let found = token_launched st token k launched acts in
         (Session found.0.session, ap (λ o. option_map (λ (l : Launch). Session l.session) o) found.1)
-    by_places (Some k) p at acts is =
+    by_indices (Some k) p at acts is =
         let found = there (λ (c : HeldProvider). bytes_eq c.token token) st.providers k at in
         (Provider k found.0.name, ap (λ o. option_map (λ (c : HeldProvider). Provider k c.name) o) found.1)
 
     by_admin : (b : Bool) → barred Store (if b then who.Admin else known_as (index_of_token token st.providers) (launch_of_token token st.tokens)) ≡ None
         → IsKnown st (if b then who.Admin else known_as (index_of_token token st.providers) (launch_of_token token st.tokens))
     by_admin true is = (Admin, refl)
-    by_admin false is = by_places (index_of_token token st.providers) (launch_of_token token st.tokens) refl refl is
+    by_admin false is = by_indices (index_of_token token st.providers) (launch_of_token token st.tokens) refl refl is
 
 pub callers_have_authority : CallersHaveAuthority
 callers_have_authority h caller let_in = known (state h) caller (all_launched h) let_in
@@ -176,8 +177,8 @@ added moment by held [] apart = tt
 added moment by held (n ∷ ns) apart = (
   λ new. stays_each n.id (add held (held_of moment by n)) (map (held_of moment by) ns) (held_of moment by n) (found_add held (held_of moment by n) new),
   each_both (λ (m : WithId). bytes_eq m.id n.id ≡ false) (Added moment by (add held (held_of moment by n)) ns) (Added moment by held (n ∷ ns)) (λ m other rest new. rest (by_held m other new (is_held n.id held) refl)) ns
-      (others n.id ns (not_true (is_one_of (ids_under ns) n.id) (and_left _ (are_distinct (ids_under ns)) apart)))
-      (added moment by (add held (held_of moment by n)) ns (and_right _ (are_distinct (ids_under ns)) apart)),
+      (others n.id ns (not-true (is_one_of (ids_under ns) n.id) (first_so _ (are_distinct (ids_under ns)) apart)))
+      (added moment by (add held (held_of moment by n)) ns (second_so _ (are_distinct (ids_under ns)) apart)),
 )
   where
     by_held : (m : WithId) → bytes_eq m.id n.id ≡ false → is_held m.id held ≡ false → (b : Bool) → is_held n.id held ≡ b → is_held m.id (add held (held_of moment by n)) ≡ false

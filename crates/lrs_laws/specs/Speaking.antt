@@ -3,8 +3,9 @@
 use Rattle.std.specs.Prelude.{◌≡◌, ◌&&◌, ◌||◌, ℕ, Bool, true, not, IsTrue, List, [], ◌∷◌, ◌++◌, filter, if◌then◌else◌}
 use Rattle.cmi5_course.specs.declared.launch.Launch.{Launch}
 use Rattle.cmi5_launch.specs.Names.{completed, failed, initialized, passed, terminated}
+use Rattle.cmi5_session.specs.Counting.{counts}
 use Rattle.cmi5_session.specs.Own.{is_cmi5_defined, is_of_session, says}
-use Rattle.cmi5_session.specs.Views.{counts, has_counting}
+use Rattle.cmi5_session.specs.Views.{has_counting}
 use Rattle.lrs_command.specs.declared.who.Who.TheVariants as who
 use Rattle.lrs_history.specs.History.{state, IsLegal}
 use Rattle.lrs_history.specs.Sessions.{is_abandoned}
@@ -53,7 +54,8 @@ AbandonedSessionsAreSilent =
 
 -- It counts for the unit and the registration of a launch, and one of those before it counts still.
 abbrev pub counts_again : Launch → List ℕ → List StoredStatement → StoredStatement → Bool
-counts_again launch verb before s = counts launch verb (view s.received) && has_counting launch verb before
+counts_again launch verb before s =
+    counts launch.registration launch.activity verb (view s.received) && has_counting launch verb before
 
 -- None of these does, each behind those before it.
 abbrev pub count_once : Launch → List ℕ → List StoredStatement → List StoredStatement → Bool

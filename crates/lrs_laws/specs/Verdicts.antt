@@ -2,7 +2,7 @@
 -- most once in a registration.
 use Rattle.std.specs.Prelude.{◌≤◌, ℕ, List, filter, length}
 use Rattle.cmi5_launch.specs.Names.{satisfied}
-use Rattle.cmi5_verdict.specs.Units.{counts}
+use Rattle.cmi5_session.specs.Counting.{counts}
 use Rattle.lrs_history.specs.History.{state, IsLegal}
 use Rattle.lrs_json.specs.View.{view}
 use Rattle.lrs_record.specs.declared.entry.Entry.{Entry}

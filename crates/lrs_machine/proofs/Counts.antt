@@ -4,6 +4,7 @@ use Rattle.std.specs.Prelude.{is_some, is_ok}
 use Rattle.std.proofs.lemmas.List.{append-nil, length-map}
 use Rattle.lrs_journal.specs.Store.{frames, body, header}
 use Rattle.lrs_journal.specs.declared.sizes.TheConstants.{MOST_BYTES}
+use Rattle.lrs_machine.proofs.Frames.{length-body}
 use Rattle.lrs_record.specs.Entries.{written_entry}
 use Rattle.lrs_record.specs.declared.entry.Entry.{Entry}
 use Rattle.lrs_fold.specs.LrsHistoryHistory.{Answer, end_offset, next_entry, state, write_outcome, ComesNext, IsLegal, IsLegalFrom}
@@ -12,7 +13,6 @@ use Rattle.lrs_replies.specs.declared.reply.Trouble.{Trouble}
 use Rattle.lrs_machine.specs.Acts.{landed_among}
 use Rattle.lrs_machine.specs.Line.{Record, entries, in_doubt, line_of, opened_line, opening_record}
 use Rattle.lrs_machine.specs.Steps.{Happens, IsCounted, line_after, one_if, record_made}
-use Rattle.lrs_machine.proofs.Frames.{length-body}
 use Rattle.lrs_machine.proofs.Lines.{doubt_append, doubt_opened, entries_append, entries_opened, none_some}
 use Rattle.lrs_machine.proofs.Tied.{accepted_by}
 

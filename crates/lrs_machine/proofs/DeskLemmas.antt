@@ -9,8 +9,8 @@ use Rattle.lrs_fold.proofs.Again.{acceptance_no_refusal}
 use Rattle.lrs_fold.proofs.Puts.{put_says}
 use Rattle.lrs_fold.specs.LrsHistoryHistory.{Outcome, Said, Accepted, Answer, answer, answer_of, need, end_offset, state, outcome}
 use Rattle.lrs_fold.specs.LrsHistoryRoomProofs.{no_room, kept_answer}
-use Rattle.lrs_machine.specs.Acts.{Acts, HasDiskCause, LineGoesOn, Receipt, Tells, changed, landed_among, line_behind, made_by, index_where, record_of}
-use Rattle.lrs_machine.specs.Desk.{Desk, added_index, history, landed_index, marks_of, receipt_of}
+use Rattle.lrs_machine.specs.Acts.{Acts, HasDiskCause, LineGoesOn, Receipt, TellsEntry, changed, landed_among, line_behind, made_by, index_where, record_of}
+use Rattle.lrs_machine.specs.Desk.{Desk, history, landed_index, marks_of, receipt_of}
 use Rattle.lrs_machine.specs.Line.{Record, entries, in_doubt}
 use Rattle.lrs_machine.specs.Numbers.{numbers_of}
 use Rattle.lrs_machine.specs.Steps.{Happens, CarriesOut, line_after, one_of}
@@ -53,9 +53,9 @@ act_put limit offset st caller c clock draw d₀ d₁ made (Err t) says put = tt
 
 -- ---- receipts
 
-is_some_place : (b : Bool) (n : ℕ) → is_some (index_where b n) ≡ b
-is_some_place true n = refl
-is_some_place false n = refl
+is_some_index : (b : Bool) (n : ℕ) → is_some (index_where b n) ≡ b
+is_some_index true n = refl
+is_some_index false n = refl
 
 added_by : (h g : List Entry) (made : Option Entry) → g ≡ h ++ one_of made → nat_lt (length h) (length g) ≡ is_some made
 added_by h g made is = by_made made (ap length is ∙ length-append h (one_of made))
@@ -72,7 +72,7 @@ added_is a said landed moment old new h =
 pub landed_is : {D : Type 0} (a : Answer) (said : Result Answered Trouble) (landed : Option ℕ) (moment : ℕ) (old new : Desk D) → Happens a said landed moment old.line new.line → landed ≡ landed_index old new
 landed_is a said landed moment old new h =
     h.lands ∙ ap (λ (b : Bool). landed_among (length (history old)) (in_doubt old.line) (in_doubt new.line) b)
-    (sym (is_some_place (nat_lt (length (history old)) (length (history new))) (length (history old)) ∙ added_is a said landed moment old.line new.line h))
+    (sym (is_some_index (nat_lt (length (history old)) (length (history new))) (length (history old)) ∙ added_is a said landed moment old.line new.line h))
 
 pub receipt_made : {D : Type 0} (time faults : D → ℕ) (old new : Desk D) (receipt : Receipt) (status point clock was : ℕ) (landed : Option ℕ)
     → receipt ≡ record { acted = true; status = status; point = point; entry = index_where (nat_lt point (length (history new))) point; landed = landed; clock = clock; disk = time new.disk; was = was; is = faults new.disk }
@@ -85,16 +85,16 @@ receipt_made time faults old new receipt status point clock was landed is at cou
 
 -- ---- acts
 
-tells : (a : Answer) (point : ℕ) (d₀ d₁ : Bool) (made : Option Entry) (said : Result Answered Trouble) (own : Option ℕ) → own ≡ index_where (is_some made) point → CarriesOut a d₀ d₁ made said → Tells a point d₀ d₁ own said
+tells : (a : Answer) (point : ℕ) (d₀ d₁ : Bool) (made : Option Entry) (said : Result Answered Trouble) (own : Option ℕ) → own ≡ index_where (is_some made) point → CarriesOut a d₀ d₁ made said → TellsEntry a point d₀ d₁ own said
 tells a point d₀ d₁ made (Ok s) own is says = (says.0, is ∙ ap (λ (o : Option Entry). index_where (is_some o) point) says.1, says.2)
 tells a point d₀ d₁ made (Err trouble.Memory) own is says = (is ∙ ap (λ (o : Option Entry). index_where (is_some o) point) says.0, says.1)
 tells a point d₀ d₁ made (Err trouble.Disk) own is (inl none) = inl (is ∙ ap (λ (o : Option Entry). index_where (is_some o) point) none.0, none.1)
 tells a point d₀ d₁ made (Err trouble.Disk) own is (inr doubtful) =
-    inr (doubtful.0, is ∙ ap (λ (o : Option Entry). index_where (is_some o) point) doubtful.1 ∙ some_place a.entry doubtful.0, doubtful.2)
+    inr (doubtful.0, is ∙ ap (λ (o : Option Entry). index_where (is_some o) point) doubtful.1 ∙ some_index a.entry doubtful.0, doubtful.2)
   where
-    some_place : (o : Option Entry) → IsSome o → index_where (is_some o) point ≡ Some point
-    some_place None some = absurd (cc some)
-    some_place (Some e) some = refl
+    some_index : (o : Option Entry) → IsSome o → index_where (is_some o) point ≡ Some point
+    some_index None some = absurd (cc some)
+    some_index (Some e) some = refl
 
 -- a status is 503 only in trouble
 ok_status : (said : Result Answered Trouble) → not (status_in said == 503) ≡ is_ok said
@@ -132,7 +132,7 @@ acts_of a said landed old new receipt h acted status point entry lands cause = r
     own = entry ∙ ap (λ (b : Bool). index_where b receipt.point) (ap (λ (n : ℕ). nat_lt n (length (entries new))) point ∙ added_is a said landed receipt.disk old new h)
 
     some : is_some receipt.entry ≡ is_some h.made
-    some = ap is_some own ∙ is_some_place (is_some h.made) receipt.point
+    some = ap is_some own ∙ is_some_index (is_some h.made) receipt.point
 
     acknowledged : not (receipt.status == 503) ≡ is_ok said
     acknowledged = ap (λ (n : ℕ). not (n == 503)) status ∙ ok_status said

@@ -2,7 +2,9 @@
 use Rattle.std.proofs.Common.{◌≡◌, ◌<◌, ◌≤◌, ◌+◌, ◌-◌, ℕ, min, max, List, [], ◌∷◌, length, refl, sym, ◌∙◌, ap, subst, arith, Option, Some, None, Bool, true, false, nat_lt, nat_le}
 use Rattle.std.specs.Prelude.{◌==◌, ◌&&◌, is_none, if◌then◌else◌}
 use Rattle.std.specs.Bool.{Decides}
+use Rattle.std.specs.Cmp.{first_so, second_so}
 use Rattle.std.proofs.lemmas.Grind.{common_steps}
+use Rattle.std.proofs.lemmas.Bool.{and_from, and_right}
 use Rattle.lrs_fold.specs.Next.{may_come}
 use Rattle.lrs_fold.specs.LrsHistoryAnswers.{write_said}
 use Rattle.lrs_fold.specs.LrsHistoryEffects.{effect}
@@ -19,23 +21,6 @@ use Rattle.lrs_replies.specs.declared.answered.Answered.{Answered}
 
 -- ---- tests
 
-both : (a b : Bool) → a ≡ true → b ≡ true → a && b ≡ true
-both true true p q = refl
-both true false p q = q
-both false b p q = cc p
-
-first : (a b : Bool) → a && b ≡ true → a ≡ true
-first true b p = refl
-first false b p = p
-
-second : (a b : Bool) → a && b ≡ true → b ≡ true
-second true b p = p
-second false b p = cc p
-
-neither : (a b : Bool) → b ≡ false → a && b ≡ false
-neither true b p = p
-neither false b p = refl
-
 none_is : (o : Option Answered) → is_none o ≡ true → o ≡ None
 none_is None is = refl
 none_is (Some s) is = cc is
@@ -43,10 +28,10 @@ none_is (Some s) is = cc is
 -- ---- the room, and what the fold says
 
 pub without_room : (b : Bool) (limit offset : ℕ) (st : State) (e : Entry) → has_room b limit offset ≡ false → may_follow b limit offset st e ≡ false
-without_room b limit offset st e full = neither (may_come b st e) (has_room b limit offset) full
+without_room b limit offset st e full = and_right (may_come b st e) (has_room b limit offset) full
 
 pub with_room : (b : Bool) (limit offset : ℕ) (st : State) (e : Entry) → has_room b limit offset ≡ true → may_come b st e ≡ true → may_follow b limit offset st e ≡ true
-with_room b limit offset st e room comes = both (may_come b st e) (has_room b limit offset) comes room
+with_room b limit offset st e room comes = and_from (may_come b st e) (has_room b limit offset) comes room
 
 pub not_coming : (b : Bool) (limit offset : ℕ) (st : State) (e : Entry) → may_come b st e ≡ false → may_follow b limit offset st e ≡ false
 not_coming b limit offset st e stays = ap (λ c. c && has_room b limit offset) stays
@@ -65,16 +50,16 @@ later_forth limit offset st e early is =
     ap (λ v. (answer_of limit offset v).entry) (accepted_again st e (write_said (effect st e)) same at_once refl) ∙ by_test (nat_lt limit (need offset e)) refl
   where
     two : is_none (said_at_once st e) && nat_le st.last e.moment ≡ true
-    two = first (is_none (said_at_once st e) && nat_le st.last e.moment) (nat_lt (offset + (5 + length (written_entry e))) limit) is
+    two = first_so (is_none (said_at_once st e) && nat_le st.last e.moment) (nat_lt (offset + (5 + length (written_entry e))) limit) is
 
     at_once : said_at_once st e ≡ None
-    at_once = none_is (said_at_once st e) (first (is_none (said_at_once st e)) (nat_le st.last e.moment) two)
+    at_once = none_is (said_at_once st e) (first_so (is_none (said_at_once st e)) (nat_le st.last e.moment) two)
 
     le : nat_le st.last e.moment ≡ true
-    le = second (is_none (said_at_once st e)) (nat_le st.last e.moment) two
+    le = second_so (is_none (said_at_once st e)) (nat_le st.last e.moment) two
 
     lt : nat_lt (offset + (5 + length (written_entry e))) limit ≡ true
-    lt = second (is_none (said_at_once st e) && nat_le st.last e.moment) (nat_lt (offset + (5 + length (written_entry e))) limit) is
+    lt = second_so (is_none (said_at_once st e) && nat_le st.last e.moment) (nat_lt (offset + (5 + length (written_entry e))) limit) is
 
     later_moment : (m n : ℕ) → m ≤ LATEST → nat_le n m ≡ true → max (min m LATEST) n ≡ m
     later_moment m n early le = let below : n ≤ m = grind (arith, common_steps) in omega (arith, early, below)
@@ -110,8 +95,8 @@ later_back limit offset st e None at is = by_test (nat_lt limit (need offset (en
     by_test true full is = cc is
     by_test false room is =
         let same : entry_now st e ≡ e = cc is in
-        both (is_none (said_at_once st e) && nat_le st.last e.moment) (nat_lt (offset + (5 + length (written_entry e))) limit)
-        (both (is_none (said_at_once st e)) (nat_le st.last e.moment) (ap (λ o. is_none o) (ap (λ x. said_at_once st x) (sym same) ∙ at)) (order e.moment st.last (ap (λ x. x.moment) same)))
+        and_from (is_none (said_at_once st e) && nat_le st.last e.moment) (nat_lt (offset + (5 + length (written_entry e))) limit)
+        (and_from (is_none (said_at_once st e)) (nat_le st.last e.moment) (ap (λ o. is_none o) (ap (λ x. said_at_once st x) (sym same) ∙ at)) (order e.moment st.last (ap (λ x. x.moment) same)))
         (roomy offset (length (written_entry e)) limit (subst (λ x. nat_lt limit (need offset x) ≡ false) same room))
 
 first_decides : (b : Bool) → Decides (b && true) (b ≡ true)

@@ -1,5 +1,5 @@
 -- Lines with one record more, fronts of lines, and the line of an opening.
-use Rattle.std.proofs.Common.{◌≡◌, ℕ, zero, suc, ◌+◌, ◌-◌, ◌<◌, ◌≤◌, List, [], ◌∷◌, ◌++◌, length, map, take, drop, Option, Some, None, Bool, true, false, ◌&&◌, not, Result, Ok, Err, refl, sym, ap, ◌∙◌, subst, inl, inr, arith, length-append, append_assoc}
+use Rattle.std.proofs.Common.{◌≡◌, ℕ, zero, suc, ◌+◌, ◌-◌, ◌<◌, ◌≤◌, List, [], ◌∷◌, ◌++◌, length, take, drop, Option, Some, None, Bool, true, false, ◌&&◌, Result, Ok, Err, refl, sym, ap, ◌∙◌, subst, inl, inr, arith, length-append, append_assoc}
 use Rattle.std.specs.Prelude.{◌⊎◌, ◌||◌, is_some, is_ok, option_map, slice_get, IsNone, IsSome, if◌then◌else◌}
 use Rattle.std.proofs.lemmas.List.{append-nil, take-append-le, take-append-drop}
 use Rattle.std.proofs.lemmas.Option.{slice_get_within}
@@ -11,6 +11,7 @@ use Rattle.lrs_replies.specs.declared.reply.Trouble.TheVariants as trouble
 use Rattle.lrs_machine.specs.Acts.{landed_among}
 use Rattle.lrs_machine.specs.Line.{Record, with_made, entries, doubt_behind, doubt_from, in_doubt, sure, opening_record, opened_line, line_of, AreBefore, BeginsWith}
 use Rattle.lrs_machine.specs.Steps.{CarriesOut, one_of, sure_of, record_made, line_after}
+use Rattle.cmi5_running_verdicts.proofs.Kept.{last_held}
 
 pub some_same : {A : Type 0} (x y : A) → Some x ≡ Some y → x ≡ y
 some_same x y e = cc
@@ -148,10 +149,6 @@ get_left [] ys k near = absurd (omega (arith, near))
 get_left (x ∷ xs) ys zero near = refl
 get_left (x ∷ xs) ys (suc k) near = get_left xs ys k (omega (arith, near))
 
-get_last : {A : Type 0} (xs : List A) (y : A) → slice_get (xs ++ y ∷ []) (length xs) ≡ Some y
-get_last [] y = refl
-get_last (x ∷ xs) y = get_last xs y
-
 pub take_whole : {A : Type 0} (xs : List A) (n : ℕ) → length xs ≤ n → take n xs ≡ xs
 take_whole [] zero le = refl
 take_whole [] (suc n) le = refl
@@ -172,21 +169,21 @@ side (suc a) zero le = absurd (omega (arith, le))
 side (suc a) (suc b) le = suc_side a b (side a b (omega (arith, le)))
 
 -- an index is an old one, or the last
-pub place_of : (line : List Record) (r q : Record) (k : ℕ) → slice_get (line ++ r ∷ []) k ≡ Some q
+pub which_of : (line : List Record) (r q : Record) (k : ℕ) → slice_get (line ++ r ∷ []) k ≡ Some q
     → ((k < length line) × (slice_get line k ≡ Some q)) ⊎ ((k ≡ length line) × (q ≡ r))
-place_of line r q k at =
+which_of line r q k at =
     let near = slice_get_within (line ++ r ∷ []) k q at in
     let len = length-append line (r ∷ []) in
     elim (side k (length line) (omega (arith, near, len))) [
       | inl low ↦ inl (low, sym (get_left line (r ∷ []) k low) ∙ at)
-      | inr last ↦ inr (last, some_same q r (sym at ∙ ap (λ (n : ℕ). slice_get (line ++ r ∷ []) n) last ∙ get_last line r))
+      | inr last ↦ inr (last, some_same q r (sym at ∙ ap (λ (n : ℕ). slice_get (line ++ r ∷ []) n) last ∙ last_held line r))
     ]
 
 -- no record of the line after an act is of a later moment
 pub before_goes : (line next : List Record) (made : Option Entry) (before now : ℕ) → before ≤ now → Goes line made now next → AreBefore before line → AreBefore now next
 before_goes line next made before now le (inl same) early k r at = (let old = early k r (ap (λ (l : List Record). slice_get l k) (sym same.1) ∙ at) in omega (arith, old, le))
 before_goes line next made before now le (inr more) early k r at =
-    elim (place_of line more.0 r k (ap (λ (l : List Record). slice_get l k) (sym more.3) ∙ at)) [
+    elim (which_of line more.0 r k (ap (λ (l : List Record). slice_get l k) (sym more.3) ∙ at)) [
       | inl old ↦ (let o = early k r old.1 in omega (arith, o, le))
       | inr last ↦ (let moment : r.moment ≡ now = ap (λ (w : Record). w.moment) last.1 ∙ more.2 in omega (arith, moment))
     ]

@@ -1,12 +1,11 @@
 -- What founding, opening and closing a desk leave.
-use Rattle.std.proofs.Common.{◌≡◌, ◌<◌, ◌≤◌, ◌+◌, ℕ, List, [], ◌∷◌, ◌++◌, length, map, take, refl, sym, ◌∙◌, ap, subst, inl, inr, arith, Option, Some, None, Bool, true, false, Result, Ok, Err, IfOk, IfErr}
-use Rattle.std.specs.Prelude.{◌⊎◌, ◌≢◌, ◌&&◌, option_map, IsSome}
+use Rattle.std.proofs.Common.{◌≡◌, ◌<◌, ◌≤◌, ◌+◌, ℕ, List, [], ◌∷◌, length, map, take, refl, sym, ◌∙◌, ap, subst, inl, inr, arith, Option, Some, None, Bool, true, false, Result, Ok, Err, IfOk, IfErr}
+use Rattle.std.specs.Prelude.{◌⊎◌, ◌&&◌, option_map, IsSome}
 use Rattle.std.specs.Option.{ForSome}
 use Rattle.std.specs.Str.{bytes_eq}
-use Rattle.std.proofs.lemmas.List.{length-map, append-nil}
 use Rattle.std.proofs.lemmas.Slice.Eq.{bytes_eq-Decides}
 use Rattle.lrs_disk.specs.Disk.{LeavesOnly}
-use Rattle.lrs_journal.specs.Store.{HasHeader, Stands, header, magic, payloads_in}
+use Rattle.lrs_journal.specs.Store.{HasHeader, Stands, magic, payloads_in}
 use Rattle.lrs_journal.specs.Journal.{Journal, frames_of, IsJournal, IsSynced, IsUnchanged, TellsAlike, StandsForFrames, settled}
 use Rattle.lrs_journal.specs.Replay.{Replay, HasRead}
 use Rattle.lrs_journal.specs.declared.sizes.TheConstants.{FRAME_HEAD, HEADER}
@@ -27,8 +26,8 @@ use Rattle.lrs_fold.specs.LrsRefusalsJudged.{IsJudged}
 use Rattle.lrs_fold.specs.Own.{founding_entry}
 use Rattle.lrs_fold.proofs.Founded.{founding_judged}
 use Rattle.lrs_machine.specs.declared.opening.FoundRefused.TheVariants as found
-use Rattle.lrs_machine.specs.Desk.{IsStoreOf, LeavesStore, IsDeskRefused, IsNotFounded, IsSameStore, MakesOnly, OpensOnly, HoldsPrefix, KeepsLine}
-use Rattle.lrs_machine.specs.Line.{Record, entries, in_doubt, sure}
+use Rattle.lrs_machine.specs.Desk.{IsStoreOf, LeavesStore, IsDeskRefused, IsNotFounded, MakesOnly, OpensOnly}
+use Rattle.lrs_machine.specs.Line.{Record, entries}
 use Rattle.lrs_machine.specs.Steps.{HoldsEntries, IsTied}
 use Rattle.lrs_machine.specs.Replays.{HasReadAll, IsReplayed, opening_refusal, founding_refusal}
 use Rattle.lrs_machine.proofs.ActLemmas.{settled_leaves}

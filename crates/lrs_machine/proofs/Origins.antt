@@ -1,6 +1,6 @@
 -- The marks of a desk tell the disk of its opening, and the desk's disk comes from it.
 use base.Stored.{Coded, Gv, gnil, gnum, gcons}
-use Rattle.std.proofs.Common.{◌≡◌, ℕ, ◌≤◌, List, [], ◌∷◌, ◌++◌, length, map, Option, Bool, true, false, Result, refl, sym, ap, ◌∙◌, subst, arith, append_assoc}
+use Rattle.std.proofs.Common.{◌≡◌, ℕ, ◌≤◌, List, [], ◌∷◌, ◌++◌, length, map, Option, Bool, false, Result, refl, sym, ap, ◌∙◌, subst, arith, append_assoc}
 use Rattle.std.specs.Prelude.{is_ok}
 use Rattle.std.specs.Option.{ForSome}
 use Rattle.lrs_disk.specs.Disk.{LeavesOnly}

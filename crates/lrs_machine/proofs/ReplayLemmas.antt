@@ -3,7 +3,7 @@ use Rattle.std.proofs.Common.{◌≡◌, ◌+◌, ℕ, List, [], ◌∷◌, ◌+
 use Rattle.std.specs.Prelude.{◌==◌}
 use Rattle.std.specs.Option.{ForSome}
 use Rattle.lrs_fold.specs.LrsHistoryHistory.{end_offset, step, IsLegalFrom, ComesNext}
-use Rattle.lrs_journal.specs.Store.{store, header, frames, body, Stands, IsDamaged}
+use Rattle.lrs_journal.specs.Store.{store, header, frames, Stands, IsDamaged}
 use Rattle.lrs_journal.specs.Replay.{Replay, HasReadTo, HasRead, HasNextOffset, HasSameOffset}
 use Rattle.lrs_journal.specs.declared.replay.ReplayRefused.{ReplayRefused}
 use Rattle.lrs_journal.specs.declared.replay.ReplayRefused.TheVariants as replay
@@ -57,9 +57,9 @@ taken_end told old new st h k long limit still so_far read same ends = (
       (e.0, subst (λ l. Stands bytes l (map written_entry h)) (sym limit) e.1),
 )
 
-place_behind : {D : Type 0} (old new : Replay D) (st : State) (h : List Entry) (frame : List ℕ) (e : Entry) → new.limit ≡ old.limit → HasNextOffset old new frame → IsReplayed old st h → written_entry e ≡ frame
+offset_behind : {D : Type 0} (old new : Replay D) (st : State) (h : List Entry) (frame : List ℕ) (e : Entry) → new.limit ≡ old.limit → HasNextOffset old new frame → IsReplayed old st h → written_entry e ≡ frame
     → new.offset ≡ end_offset new.limit h + (FRAME_HEAD + length (written_entry e))
-place_behind old new st h frame e limit next so_far is =
+offset_behind old new st h frame e limit next so_far is =
     next.0 ∙ ap (λ n. n + (FRAME_HEAD + length frame)) (so_far.offset ∙ ap (λ l. end_offset l h) (sym limit)) ∙ ap (λ f. end_offset new.limit h + (FRAME_HEAD + length f)) (sym is)
 
 -- one entry more
@@ -71,10 +71,10 @@ taken_more told old new st su h g k frame e long limit still so_far read next mo
   omega (arith, long, length-append h (e ∷ [])),
   record {
     legal = legal-more new.limit [] h e (subst (λ l. IsLegalFrom l [] h) (sym limit) so_far.legal) lawful
-        ((may_decides new.limit new.offset st h e k long so_far.folded lawful.values.moment (place_behind old new st h frame e limit next so_far is)).0 may);
+        ((may_decides new.limit new.offset st h e k long so_far.folded lawful.values.moment (offset_behind old new st h frame e limit next so_far is)).0 may);
     folded = folded ∙ (ap (λ z. step z e) so_far.folded ∙ sym (state_from-more nothing h e));
     counts = omega (arith, next.1, so_far.counts, length-append h (e ∷ []));
-    offset = place_behind old new st h frame e limit next so_far is ∙ sym (length-store-more new.limit (map written_entry h) (written_entry e)) ∙ ap (λ ps. length (store new.limit ps)) (sym (map-more written_entry h e));
+    offset = offset_behind old new st h frame e limit next so_far is ∙ sym (length-store-more new.limit (map written_entry h) (written_entry e)) ∙ ap (λ ps. length (store new.limit ps)) (sym (map-more written_entry h e));
   },
   λ bytes there.
       subst (λ ps. HasReadTo bytes new.limit new.offset new.number ps) (ap (λ f. map written_entry h ++ f ∷ []) (sym is) ∙ sym (map-more written_entry h e))
@@ -94,7 +94,7 @@ taken_illegal bytes old new st h k frame long limit so_far before next read neve
     begins = subst (λ l. BeginsWithFrames bytes l (map written_entry h ++ frame ∷ [])) limit (begins_with bytes new.limit new.offset new.number (map written_entry h ++ frame ∷ []) read);
     broken = λ e lawful is comes.
         not_both (may_follow (k == 0) new.limit new.offset st e)
-        ((may_decides new.limit new.offset st h e k long so_far.folded lawful.values.moment (place_behind old new st h frame e limit next so_far is)).1 (subst (λ l. ComesNext l h e) (sym limit) comes))
+        ((may_decides new.limit new.offset st h e k long so_far.folded lawful.values.moment (offset_behind old new st h frame e limit next so_far is)).1 (subst (λ l. ComesNext l h e) (sym limit) comes))
         (never e lawful is);
   }),
 )
@@ -114,13 +114,13 @@ taken_unread bytes old st h replay.Memory so_far before damaged = tt
 pub taken_refused : {D : Type 0} (bytes : List ℕ) (old new : Replay D) (st su : State) (h g : List Entry) (k limit offset : ℕ) (frame : List ℕ) (r : DeskRefused) → length h ≡ k → new.limit ≡ old.limit
     → IsReplayed old st h → HasReadEntries bytes old h → HasNextOffset old new frame → HasRead bytes new (map written_entry h ++ frame ∷ []) → limit ≡ new.limit → offset ≡ new.offset
     → TakesEntry frame k limit offset st su h g (Err r) → IsDeskRefused bytes r
-taken_refused bytes old new st su h g k limit offset frame (desk.IllegalEntry j) long same so_far before next read of_limit of_place takes =
+taken_refused bytes old new st su h g k limit offset frame (desk.IllegalEntry j) long same so_far before next read of_limit of_offset takes =
     subst (λ i. IsDeskRefused bytes (desk.IllegalEntry i)) (sym takes.0) (taken_illegal bytes old new st h k frame long same so_far before next read (λ e lawful is.
-    subst (λ p. may_follow (k == 0) new.limit p st e ≡ false) of_place (subst (λ l. may_follow (k == 0) l offset st e ≡ false) of_limit (takes.1 e lawful is))))
-taken_refused bytes old new st su h g k limit offset frame desk.Memory long same so_far before next read of_limit of_place takes = tt
-taken_refused bytes old new st su h g k limit offset frame desk.Failed long same so_far before next read of_limit of_place takes = absurd takes
-taken_refused bytes old new st su h g k limit offset frame desk.NotAStore long same so_far before next read of_limit of_place takes = absurd takes
-taken_refused bytes old new st su h g k limit offset frame (desk.Damaged j) long same so_far before next read of_limit of_place takes = absurd takes
+    subst (λ p. may_follow (k == 0) new.limit p st e ≡ false) of_offset (subst (λ l. may_follow (k == 0) l offset st e ≡ false) of_limit (takes.1 e lawful is))))
+taken_refused bytes old new st su h g k limit offset frame desk.Memory long same so_far before next read of_limit of_offset takes = tt
+taken_refused bytes old new st su h g k limit offset frame desk.Failed long same so_far before next read of_limit of_offset takes = absurd takes
+taken_refused bytes old new st su h g k limit offset frame desk.NotAStore long same so_far before next read of_limit of_offset takes = absurd takes
+taken_refused bytes old new st su h g k limit offset frame (desk.Damaged j) long same so_far before next read of_limit of_offset takes = absurd takes
 
 -- a list's end without a frame
 pub ended_empty : {D : Type 0} (bytes : List ℕ) (replay : Replay D) (st : State) (h : List Entry) → length h ≡ 0 → IsReplayed replay st h → HasReadAll bytes replay h → IsDeskRefused bytes (desk.IllegalEntry 0)

@@ -1,6 +1,6 @@
 -- After each act the journal, the fold and the line tell of one history.
 use Rattle.std.proofs.Common.{◌≡◌, ℕ, ◌+◌, ◌-◌, ◌<◌, ◌≤◌, List, [], ◌∷◌, ◌++◌, length, map, take, Option, Some, None, Bool, true, false, Result, Ok, Err, refl, sym, ap, ◌∙◌, subst, inl, inr, arith, length-append, nat_lt}
-use Rattle.std.specs.Prelude.{◌⊎◌, option_map, is_some, is_ok, slice_get, IsSome, if◌then◌else◌}
+use Rattle.std.specs.Prelude.{option_map, is_some, is_ok, slice_get, IsSome, if◌then◌else◌}
 use Rattle.std.specs.Option.{ForSome}
 use Rattle.std.proofs.lemmas.Grind.{common_steps}
 use Rattle.std.proofs.lemmas.List.{append-nil, length-map, map-append, take-append-le}
@@ -9,7 +9,7 @@ use Rattle.lrs_disk.specs.Disk.{LeavesOnly}
 use Rattle.lrs_fold.proofs.Again.{kept_again}
 use Rattle.lrs_fold.specs.LrsHistoryRoomProofs.{no_room, kept_answer}
 use Rattle.lrs_fold.specs.LrsHistoryHistory.{Answer, Outcome, Said, Accepted, answer, answer_of, end_offset, need, outcome, state, ComesNext, IsLegal}
-use Rattle.lrs_journal.specs.Journal.{Journal, frames_of, settled, IsJournal, IsAppended, IsUnchanged, StandsForFrames, TellsAlike}
+use Rattle.lrs_journal.specs.Journal.{Journal, frames_of, settled, IsJournal, StandsForFrames, TellsAlike}
 use Rattle.lrs_journal.specs.Store.{payloads_in, store}
 use Rattle.lrs_journal.specs.declared.sizes.TheConstants.{FRAME_HEAD}
 use Rattle.lrs_names.specs.declared.draw.Draw.{Draw}
@@ -21,13 +21,13 @@ use Rattle.lrs_replies.specs.declared.answered.Answered.{Answered}
 use Rattle.lrs_replies.specs.declared.reply.Trouble.{Trouble}
 use Rattle.lrs_replies.specs.declared.reply.Trouble.TheVariants as trouble
 use Rattle.lrs_machine.specs.Acts.{landed_among}
-use Rattle.lrs_machine.specs.Desk.{Desk, HoldsPrefix, IsOnDisk, KeepsLine}
+use Rattle.lrs_machine.specs.Desk.{HoldsPrefix, IsOnDisk, KeepsLine}
 use Rattle.lrs_parts.specs.Parts.{SeenParts as Parts}
-use Rattle.lrs_machine.specs.Line.{Record, entries, in_doubt, sure, opened_line, line_of, AreBefore}
+use Rattle.lrs_machine.specs.Line.{Record, entries, in_doubt, sure, opened_line, line_of}
 use Rattle.lrs_machine.specs.Steps.{Does, GrewBy, HoldsFrames, Happens, HoldsEntries, LeavesFrames, IsTied, CarriesOut, folded, landed_of, line_after, one_of, sure_of}
 use Rattle.lrs_machine.proofs.Frames.{length-store-more}
 use Rattle.lrs_machine.proofs.Histories.{state_from-more, map-more, legal_with}
-use Rattle.lrs_machine.proofs.Lines.{Goes, before_goes, begins_opened, opened_within, doubt_opened, doubt_with, entries_goes, entries_opened, front_after, goes, moment_opened, none_some, place_of, some_same, sure_front, sure_goes, take_whole}
+use Rattle.lrs_machine.proofs.Lines.{Goes, before_goes, begins_opened, opened_within, doubt_opened, doubt_with, entries_goes, entries_opened, goes, moment_opened, none_some, which_of, some_same, sure_front, sure_goes, take_whole}
 use Rattle.lrs_machine.proofs.Prefixes.{frames_stand, prefix_less, prefix_more, prefix_of, weaker}
 
 -- ---- what is told
@@ -77,9 +77,9 @@ number_one : {D : Type 0} (told : D → Option (List ℕ)) (made : Option Entry)
 number_one told None old new h grew is = grew.number ∙ is ∙ ap length (sym (append-nil h))
 number_one told (Some e) old new h grew is = (let g = grew.1.number in omega (arith, g, is, length-append h (e ∷ [])))
 
-place_one : {D : Type 0} (told : D → Option (List ℕ)) (made : Option Entry) (old new : Journal D) (h : List Entry) → GrewBy told made old new → old.end ≡ end_offset old.limit h → new.end ≡ end_offset old.limit (h ++ one_of made)
-place_one told None old new h grew is = grew.end ∙ is ∙ ap (λ (l : List Entry). end_offset old.limit l) (sym (append-nil h))
-place_one told (Some e) old new h grew is =
+offset_one : {D : Type 0} (told : D → Option (List ℕ)) (made : Option Entry) (old new : Journal D) (h : List Entry) → GrewBy told made old new → old.end ≡ end_offset old.limit h → new.end ≡ end_offset old.limit (h ++ one_of made)
+offset_one told None old new h grew is = grew.end ∙ is ∙ ap (λ (l : List Entry). end_offset old.limit l) (sym (append-nil h))
+offset_one told (Some e) old new h grew is =
     grew.1.end ∙ ap (λ (n : ℕ). n + (FRAME_HEAD + length (written_entry e))) is ∙ sym (length-store-more old.limit (map written_entry h) (written_entry e))
     ∙ ap (λ (ps : List (List ℕ)). length (store old.limit ps)) (sym (map-more written_entry h e))
 
@@ -184,7 +184,7 @@ module _ {D : Type 0} (told : D → Option (List ℕ)) (image : D → List ℕ �
         → (b₀ b : List ℕ) → told old.disk ≡ Some b₀ → told new.disk ≡ Some b → KeepsLine old.limit (time new.disk) (since new.disk) next
     kept_by (inl same) tied sound moves doubt b₀ b there₀ there k r at = kept_still same.1 tied moves b₀ there₀ k r at
     kept_by (inr more) tied sound moves doubt b₀ b there₀ there k r at =
-        elim (place_of line more.0 r k (ap (λ (l : List Record). slice_get l k) (sym more.3) ∙ at)) [
+        elim (which_of line more.0 r k (ap (λ (l : List Record). slice_get l k) (sym more.3) ∙ at)) [
           | inl early ↦ (
               let old_moment = tied.moments k r early.1 in (
                 omega (arith, old_moment, moves.later),
@@ -226,7 +226,7 @@ module _ {D : Type 0} (told : D → Option (List ℕ)) (image : D → List ℕ �
           folded = moves.folds ∙ ap (λ (z : State). folded z made) tied.folded ∙ state_one (entries line) made ∙ ap state (sym same);
           legal = subst (λ (l : ℕ). IsLegal l (entries next)) (sym limit) moves.legal;
           counts = number_one told made old new (entries line) moves.grew tied.counts ∙ ap length (sym same);
-          offset = place_one told made old new (entries line) moves.grew tied.offset ∙ ap (λ (h : List Entry). end_offset old.limit h) (sym same) ∙ ap (λ (l : ℕ). end_offset l (entries next)) (sym limit);
+          offset = offset_one told made old new (entries line) moves.grew tied.offset ∙ ap (λ (h : List Entry). end_offset old.limit h) (sym same) ∙ ap (λ (l : ℕ). end_offset l (entries next)) (sym limit);
           doubts = sym doubt;
           founded = omega (arith, tied.founded, sures);
           frames = frames_next tied moves;

@@ -87,10 +87,10 @@ LineGoesOn receipt old new = (changed receipt ≡ true → IsOneMore new old) ×
 
 -- The act's own entry, by what was said over the answer. Without trouble it is the answer's, and none is in doubt. In
 -- trouble with the disk it may be the answer's, in doubt; without it nothing comes into doubt.
-abbrev pub Tells : Answer → ℕ → Bool → Bool → Option ℕ → Result Answered Trouble → Type 0
-Tells a point old new own (Ok said) = (said ≡ a.said) × (own ≡ index_where (is_some a.entry) point) × (new ≡ false)
-Tells a point old new own (Err Memory) = (own ≡ None) × (new ≡ false)
-Tells a point old new own (Err Disk) =
+abbrev pub TellsEntry : Answer → ℕ → Bool → Bool → Option ℕ → Result Answered Trouble → Type 0
+TellsEntry a point old new own (Ok said) = (said ≡ a.said) × (own ≡ index_where (is_some a.entry) point) × (new ≡ false)
+TellsEntry a point old new own (Err Memory) = (own ≡ None) × (new ≡ false)
+TellsEntry a point old new own (Err Disk) =
     ((own ≡ None) × (old ≡ false → new ≡ false)) ⊎ (IsSome a.entry × (own ≡ Some point) × (new ≡ true))
 
 -- the disk's trouble is told exactly if its count rose in the act
@@ -104,7 +104,7 @@ pub record Acts (a : Answer) (said : Result Answered Trouble) (receipt : Receipt
   pub acted : receipt.acted ≡ true
   pub point : receipt.point ≡ length (entries old)
   pub cause : HasDiskCause receipt.was receipt.is said
-  pub tells : Tells a receipt.point (in_doubt old) (in_doubt new) receipt.entry said
+  pub tells : TellsEntry a receipt.point (in_doubt old) (in_doubt new) receipt.entry said
   pub landed : receipt.landed ≡ landed_among receipt.point (in_doubt old) (in_doubt new) (is_some receipt.entry)
   pub line : new ≡ line_behind old a receipt
   -- no record is of a later moment than the act's end

@@ -1,7 +1,7 @@
 -- What the desk's calls promise.
 use base.Stored.{Coded}
 use Rattle.std.specs.Prelude.{◌≡◌, ◌⊎◌, ◌<◌, ◌≤◌, ◌+◌, ℕ, List, [], ◌∷◌, ◌++◌, length, map, take, slice_get, Option}
-use Rattle.std.specs.Prelude.{Some, Bool, true, false, is_some, is_none, nat_lt}
+use Rattle.std.specs.Prelude.{Some, Bool, true, is_some, is_none, nat_lt}
 use Rattle.std.specs.Option.{ForSome}
 use Rattle.std.specs.List.{AllByRecursion}
 use Rattle.lrs_disk.specs.Disk.{LeavesOnly}

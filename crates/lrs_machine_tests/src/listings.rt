@@ -58,9 +58,9 @@ fn references_lead_where_they_may(rt: HostRuntime) -> Result<(), Fail> {
     check_rows(rt.alloc(), REFERENCES)
 }
 
-// A statement whose Group has that member, and one whose SubStatement has that Group. Then the other places of agents, in
+// A statement whose Group has that member, and one whose SubStatement has that Group. Then the other roles of agents, in
 // a statement and in a SubStatement, and so those of activities.
-const PLACES: &str = r#"
+const ROLES: &str = r#"
 admin put Z1 {"actor":{"objectType":"Group","member":[{"mbox":"mailto:g@h"}]},"verb":{"id":"http://v/1"},"object":{"id":"http://a/1"}} => 204 kept
 admin put Z2 {"actor":{"mbox":"mailto:a@b"},"verb":{"id":"http://v/1"},"object":{"objectType":"SubStatement","actor":{"objectType":"Group","member":[{"mbox":"mailto:g@h"}]},"verb":{"id":"http://v/1"},"object":{"id":"http://a/1"}}} => 204 kept
 admin put Z3 {"actor":{"mbox":"mailto:a@b"},"verb":{"id":"http://v/1"},"object":{"objectType":"Group","mbox":"mailto:o@p","member":[{"mbox":"mailto:q@r"}]},"context":{"instructor":{"objectType":"Group","mbox":"mailto:i@j","member":[{"mbox":"mailto:k@l"}]},"team":{"objectType":"Group","mbox":"mailto:s@t","member":[{"mbox":"mailto:u@v"}]}}} => 204 kept
@@ -100,8 +100,8 @@ admin get ?activity=http://c/o&related_activities=true => 200 [65]
 "#;
 
 #[test]
-fn groups_and_related_places_are_looked_into(rt: HostRuntime) -> Result<(), Fail> {
-    check_rows(rt.alloc(), PLACES)
+fn groups_and_related_roles_are_looked_into(rt: HostRuntime) -> Result<(), Fail> {
+    check_rows(rt.alloc(), ROLES)
 }
 
 // Three statements that pass different filters.

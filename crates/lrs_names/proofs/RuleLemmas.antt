@@ -1,6 +1,7 @@
 -- The least rule of lists that are joined is the lesser of theirs.
 use Rattle.std.proofs.Common.{subst, ◌≤◌, inl, inr, true, nat_le, ◌≡◌, ℕ, List, [], ◌∷◌, ◌++◌, min, Option, Some, None, refl, sym, ap, ◌∙◌, arith}
 use Rattle.std.specs.List.{list_all}
+use Rattle.std.specs.Prelude.{IfOk, Result, Ok, Err}
 use Rattle.std.proofs.lemmas.Bool.{cases_lt}
 use Rattle.std.proofs.lemmas.Bool.Decides.{nat_tests}
 use Rattle.lrs_names.specs.Rules.{lesser, least, IsLeast}
@@ -42,6 +43,20 @@ least_with r rs (Some s) is = elim (cases_lt s r) [
 pub least_is : (rules : List ℕ) → IsLeast rules (least rules)
 least_is [] = refl
 least_is (r ∷ rs) = least_with r rs (least rs) (least_is rs)
+
+pub ok_least : {E : Type 0} (fs : List ℕ) (r : Result (Option ℕ) E) → IfOk r (λ o. o ≡ least fs) → IfOk r (IsLeast fs)
+ok_least fs (Ok o) e = subst (IsLeast fs) (sym e) (least_is fs)
+ok_least fs (Err x) e = tt
+
+-- ---- one more item of a list is looked at
+
+pub one_more : (all here now later : List ℕ) (broken found next : Option ℕ) → least all ≡ lesser broken (least here)
+    → here ≡ now ++ later → found ≡ least now → next ≡ lesser broken found
+    → least all ≡ lesser next (least later)
+one_more all here now later broken found next so is f n =
+    so ∙ ap (λ z. lesser broken (least z)) is ∙ ap (lesser broken) (least-append now later)
+    ∙ sym (lesser_assoc broken (least now) (least later))
+    ∙ ap (λ z. lesser (lesser broken z) (least later)) (sym f) ∙ ap (λ z. lesser z (least later)) (sym n)
 
 -- ---- for the tactics
 

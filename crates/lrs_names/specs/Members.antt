@@ -3,9 +3,10 @@ use Rattle.std.specs.Prelude.{ℕ, List, [], Bool, true, false, ◌&&◌, Option
 use Rattle.std.specs.List.{list_any}
 use Rattle.std.specs.Option.{option_map_or}
 use Rattle.std.specs.Str.{bytes_eq}
-use Rattle.lrs_json.specs.Json.{Json, null, boolean, number, string, array, object, Elements, no_elements, Members}
+use Rattle.lrs_json.specs.Json.{Json, null, boolean, number, string, array, object, Members}
 use Rattle.lrs_json.specs.Json.{no_members, member}
 use Rattle.lrs_json.specs.Find.{find}
+use Rattle.lrs_json.specs.Parts.{text_in}
 
 -- a string whose text passes
 abbrev pub is_string_that : (List ℕ → Bool) → Json → Bool
@@ -22,15 +23,6 @@ is_string j = is_string_that (λ text. true) j
 -- that very string
 abbrev pub is_word : List ℕ → Json → Bool
 is_word word j = is_string_that (λ text. bytes_eq text word) j
-
--- the text of a string
-abbrev pub text_of : Json → Option (List ℕ)
-text_of null = None
-text_of (boolean b) = None
-text_of (number s) = None
-text_of (string text) = Some text
-text_of (array js) = None
-text_of (object ms) = None
 
 -- the member stands
 abbrev pub has_member : List ℕ → Json → Bool
@@ -50,7 +42,7 @@ faults_of_member name faults j = option_map_or faults (find name j) []
 
 -- the text of the member, if it is a string
 abbrev pub text_under : List ℕ → Json → Option (List ℕ)
-text_under name j = option_and_then text_of (find name j)
+text_under name j = option_and_then text_in (find name j)
 
 -- how a number is spelled
 abbrev pub spelling_of : Json → Option (List ℕ)

@@ -15,7 +15,6 @@ pub use iris::{Iri, broken_iri, holds_iri, is_control_or_space};
 pub use languages::{LangTag, broken_language_map, is_language_map};
 pub use lrs_json::Memory;
 pub use members::{
-    has_member, has_only, has_string, is_one_of, is_string, is_string_if_there, is_word, text_of,
-    text_under,
+    has_member, has_only, has_string, is_one_of, is_string, is_string_if_there, is_word, text_under,
 };
 pub use rules::{lesser, unless};

@@ -1,7 +1,8 @@
 // What is asked of a value by its kind and by its members.
 ghost use Rattle.std.specs.Prelude.{◌≡◌, map, option_map};
 ghost use Rattle.lrs_json.specs.View.{view, member_view, members_of};
-ghost use Rattle.lrs_names.specs.Members.{is_string, is_word, text_of, text_under, has_member, has_member_that, if_member, is_one_of, are_named_by, has_only};
+ghost use Rattle.lrs_json.specs.Parts.{text_in};
+ghost use Rattle.lrs_names.specs.Members.{is_string, is_word, text_under, has_member, has_member_that, if_member, is_one_of, are_named_by, has_only};
 
 use lrs_json::{Member, Text, Tree};
 
@@ -22,9 +23,9 @@ pub fn is_word(tree: &Tree, word: &str) -> bool
     }
 }
 
-/// The text of a string.
-pub fn text_of(tree: &Tree) -> Option<&Text>
-    ensures { option_map (λ t. t.now) result ≡ text_of (view tree.now) }
+// The text of a string.
+fn text_in(tree: &Tree) -> Option<&Text>
+    ensures { option_map (λ t. t.now) result ≡ text_in (view tree.now) }
 {
     match tree {
         Tree::Words(text) => Some(text),
@@ -37,7 +38,7 @@ pub fn text_under<'a>(tree: &'a Tree, name: &str) -> Option<&'a Text>
     ensures { option_map (λ t. t.now) result ≡ text_under name.now (view tree.now) }
 {
     match tree.get(name) {
-        Some(value) => text_of(value),
+        Some(value) => text_in(value),
         None => None,
     }
 }

@@ -27,7 +27,7 @@ fn is_read_as(text: &str, wanted: &Option<&str>) -> bool {
     }
 }
 
-// The place of the first row that is wrong.
+// The index of the first row that is wrong.
 fn wrong_id() -> Option<usize> {
     for (i, (text, wanted)) in ID_TEXTS.iter().enumerate() {
         if !is_read_as(text, wanted) {
@@ -432,7 +432,7 @@ fn is_told(alloc: Global, ifi: &Ifi, tree: &Tree, own: bool) -> bool {
     }
 }
 
-// The place of the first tree that is told wrong, if the identifier is that of the tree at `own`.
+// The index of the first tree that is told wrong, if the identifier is that of the tree at `own`.
 fn wrong_tree(alloc: Global, ifi: &Ifi, own: usize, trees: &[Tree]) -> Option<usize> {
     for (k, tree) in trees.iter().enumerate() {
         if !is_told(alloc, ifi, tree, k == own) {

@@ -6,8 +6,8 @@ use Rattle.std.specs.Str.{bytes_eq}
 use Rattle.std.proofs.lemmas.List.{length-take-le}
 use Rattle.std.proofs.lemmas.Option.{slice_get_past, slice_get_within}
 use Rattle.lrs_ids.specs.Ids.{are_distinct}
-use Rattle.lrs_parts.specs.Progress.{is_at, index_behind}
-use Rattle.lrs_parts.proofs.Events.{bytes_same, next_added, passes_there, same_bytes, same_place, stands_there, take_next, within_front}
+use Rattle.lrs_parts.specs.Progress.{is_statement_at, index_behind}
+use Rattle.lrs_parts.proofs.Events.{bytes_same, next_added, passes_there, same_bytes, same_index, stands_there, take_next, within_front}
 use Rattle.xapi_statement.specs.Statements.{add_each, ids_of, is_held}
 use Rattle.cmi5_running_verdicts.specs.XapiIndexAddingProofs.{add-new, add-old}
 use Rattle.cmi5_running_verdicts.specs.XapiIndexFoundProofs.{found_at}
@@ -23,12 +23,12 @@ record Before (all : List StoredStatement) (at : ℕ) (id : List ℕ) : Type 0 w
 
 stands_before : (all : List StoredStatement) (at : ℕ) (id : List ℕ) → is_held id (take at all) ≡ true → Before all at id
 stands_before all at id held =
-    by_place (position (λ (u : StoredStatement). bytes_eq u.id id) (take at all)) refl
+    by_index (position (λ (u : StoredStatement). bytes_eq u.id id) (take at all)) refl
     (found_at (λ (u : StoredStatement). bytes_eq u.id id) (take at all) (position (λ (u : StoredStatement). bytes_eq u.id id) (take at all)) refl ∙ held)
   where
-    by_place : (o : Option ℕ) → position (λ (u : StoredStatement). bytes_eq u.id id) (take at all) ≡ o → is_some o ≡ true → Before all at id
-    by_place None first is = absurd (true≢false (sym is))
-    by_place (Some k) first is =
+    by_index : (o : Option ℕ) → position (λ (u : StoredStatement). bytes_eq u.id id) (take at all) ≡ o → is_some o ≡ true → Before all at id
+    by_index None first is = absurd (true≢false (sym is))
+    by_index (Some k) first is =
         let it = stands_there (λ (u : StoredStatement). bytes_eq u.id id) (take at all) k first in
         let front : (k < at) × (slice_get all k ≡ Some it.0) = within_front at all k it.0 it.1 in
         record {
@@ -40,7 +40,7 @@ stands_before all at id held =
         }
 
 -- it isn't there again
-not_again : (all : List StoredStatement) (at : ℕ) (s : StoredStatement) → are_distinct (ids_of all) ≡ true → is_held s.id (take at all) ≡ true → is_at s all at ≡ false
+not_again : (all : List StoredStatement) (at : ℕ) (s : StoredStatement) → are_distinct (ids_of all) ≡ true → is_held s.id (take at all) ≡ true → is_statement_at s all at ≡ false
 not_again all at s distinct held = by_item (slice_get all at) refl
   where
     first : Before all at s.id
@@ -48,7 +48,7 @@ not_again all at s distinct held = by_item (slice_get all at) refl
 
     by_test : (t : StoredStatement) → slice_get all at ≡ Some t → (b : Bool) → bytes_eq t.id s.id ≡ b → b ≡ false
     by_test t there true is =
-        let same : first.index ≡ at = same_place all distinct first.index at first.item t first.there there (first.named ∙ sym (same_bytes t.id s.id is)) in
+        let same : first.index ≡ at = same_index all distinct first.index at first.item t first.there there (first.named ∙ sym (same_bytes t.id s.id is)) in
         absurd (omega (arith, same, first.less))
     by_test t there false is = refl
 
@@ -58,12 +58,12 @@ not_again all at s distinct held = by_item (slice_get all at) refl
 
 -- Of what came and is still to be followed, this is the next one: whether it stands at the position, and where the rest stands.
 pub record Next (all : List StoredStatement) (at : ℕ) (s : StoredStatement) (more : List StoredStatement) : Type 0 where
-  pub there : is_at s all at ≡ true → slice_get all at ≡ Some s
+  pub there : is_statement_at s all at ≡ true → slice_get all at ≡ Some s
   pub within : index_behind s all at ≤ length all
   pub added : all ≡ add_each (take (index_behind s all at) all) more
 
 -- its id was held
-next_old : (all : List StoredStatement) (at : ℕ) (s : StoredStatement) (more : List StoredStatement) → at ≤ length all → is_at s all at ≡ false
+next_old : (all : List StoredStatement) (at : ℕ) (s : StoredStatement) (more : List StoredStatement) → at ≤ length all → is_statement_at s all at ≡ false
     → all ≡ add_each (take at all) more → Next all at s more
 next_old all at s more within elsewhere added = record {
   there = λ yes. absurd (true≢false (sym yes ∙ elsewhere));

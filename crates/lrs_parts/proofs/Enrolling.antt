@@ -7,7 +7,6 @@ use Rattle.std.specs.Str.{bytes_eq}
 use Rattle.std.proofs.lemmas.Bool.Decides.{nat_tests}
 use Rattle.std.proofs.lemmas.Option.{cond_some, none-some, same_Some, slice_get_within}
 use Rattle.cmi5_course.specs.Courses.{Course, course_key}
-use Rattle.cmi5_course.specs.declared.course.Node.{Node}
 use Rattle.cmi5_running_verdicts.specs.Running.{SeenRunning, TalliesStandFor}
 use Rattle.cmi5_running_verdicts.specs.Tallies.{AreTallies}
 use Rattle.cmi5_running_verdicts.specs.declared.tally.Tally.{Tally}
@@ -21,7 +20,7 @@ use Rattle.lrs_parts.specs.Progress.{AreCounted, HasTallies, IsReadyToEnrol, enr
 use Rattle.lrs_state.specs.Registrations.{registration_key, registrations_after}
 use Rattle.lrs_state.specs.declared.founding.Founding.{Founding}
 use Rattle.lrs_state.specs.declared.registrations.HeldRegistration.{HeldRegistration}
-use Rattle.lrs_parts.proofs.Events.{passes_there, same_bytes, stands_there}
+use Rattle.lrs_parts.proofs.Events.{get_behind, passes_there, same_bytes, stands_there}
 use Rattle.lrs_register.proofs.Firsts.{position-push}
 use Rattle.lrs_register.specs.Changes.{with_replaced}
 use Rattle.lrs_register.specs.Register.{with_new}
@@ -53,9 +52,9 @@ enrolled_id (Some f) courses r e is = by_course (slice_get courses r.course) is
 
 -- ---- the registration that a statement names
 
-named_place : (registrations : List HeldRegistration) (s : StoredStatement) (k : ℕ) → number_named s registrations ≡ Some k
+named_index : (registrations : List HeldRegistration) (s : StoredStatement) (k : ℕ) → number_named s registrations ≡ Some k
     → (id : List ℕ) × (index_under registration_key id registrations ≡ Some k)
-named_place registrations s k is = by_id (registration_of (view s.received)) is
+named_index registrations s k is = by_id (registration_of (view s.received)) is
   where
     by_id : (o : Option (List ℕ)) → option_and_then (λ (id : List ℕ). index_under registration_key id registrations) o ≡ Some k
         → (id : List ℕ) × (index_under registration_key id registrations ≡ Some k)
@@ -153,7 +152,7 @@ counted_still running founding courses registrations before after s elsewhere no
 pub always_enrolled : (running : SeenRunning) (founding : Option Founding) (courses : List Course) (registrations : List HeldRegistration) (those : List MarkedStatement) (s : StoredStatement) (number : ℕ)
     → number_named s registrations ≡ Some number → enrolment_at founding courses registrations number ≡ None → AreCounted running founding courses registrations those → ⊥
 always_enrolled running founding courses registrations those s number named none counted =
-    let index = named_place registrations s number named in
+    let index = named_index registrations s number named in
     let held = stands_there (λ (x : HeldRegistration). bytes_eq (registration_key x) index.0) registrations number index.1 in
     let its : HasTallies running founding courses those number held.0 = counted.each index.0 number held.0 index.1 held.1 in
     none-some its.enrolment (sym none ∙ (ap (λ (o : Option HeldRegistration). option_and_then (enrolment_in founding courses) o) held.1 ∙ its.enrolled))
@@ -165,24 +164,20 @@ get_front [] ys k x at = absurd (none-some x at)
 get_front (y ∷ xs) ys zero x at = at
 get_front (y ∷ xs) ys (suc k) x at = get_front xs ys k x at
 
-get_behind : {A : Type 0} (xs : List A) (y : A) (ys : List A) → slice_get (xs ++ y ∷ ys) (length xs) ≡ Some y
-get_behind [] y ys = refl
-get_behind (x ∷ xs) y ys = get_behind xs y ys
-
 pub counted_more : (old new : SeenRunning) (founding : Option Founding) (courses : List Course) (registrations : List HeldRegistration) (those : List MarkedStatement) (r : HeldRegistration) (e : SeenEnrolment)
     → enrolment_in founding courses r ≡ Some e → TalliesStandFor new those (length old.held) e → ((k : ℕ) → k < length old.held → slice_get new.held k ≡ slice_get old.held k)
     → length new.held ≡ length old.held + 1 → AreCounted old founding courses registrations those → AreCounted new founding courses (registrations ++ r ∷ []) those
 counted_more old new founding courses registrations those r e enrolled stands others long counted = record {
   long = omega (arith, long, counted.long, length-append registrations (r ∷ []));
   each = λ id k x index there.
-      by_place id k x there (position (λ (y : HeldRegistration). bytes_eq (registration_key y) id) registrations) refl
+      by_index id k x there (position (λ (y : HeldRegistration). bytes_eq (registration_key y) id) registrations) refl
       (sym (position-push (λ (y : HeldRegistration). bytes_eq (registration_key y) id) registrations r) ∙ index);
 }
   where
-    by_place : (id : List ℕ) (k : ℕ) (x : HeldRegistration) → slice_get (registrations ++ r ∷ []) k ≡ Some x → (o : Option ℕ)
+    by_index : (id : List ℕ) (k : ℕ) (x : HeldRegistration) → slice_get (registrations ++ r ∷ []) k ≡ Some x → (o : Option ℕ)
         → position (λ (y : HeldRegistration). bytes_eq (registration_key y) id) registrations ≡ o
         → option_or o (cond (bytes_eq (registration_key r) id) (Some (length registrations)) None) ≡ Some k → HasTallies new founding courses those k x
-    by_place id k x there (Some j) first is =
+    by_index id k x there (Some j) first is =
         let index : position (λ (y : HeldRegistration). bytes_eq (registration_key y) id) registrations ≡ Some k = first ∙ is in
         let held = stands_there (λ (y : HeldRegistration). bytes_eq (registration_key y) id) registrations k index in
         let same : held.0 ≡ x = same_Some held.0 x (sym (get_front registrations (r ∷ []) k held.0 held.1) ∙ there) in
@@ -193,7 +188,7 @@ counted_more old new founding courses registrations those r e enrolled stands ot
           enrolled = subst (λ (y : HeldRegistration). enrolment_in founding courses y ≡ Some its.enrolment) same its.enrolled;
           stands = record { tallies = its.stands.tallies; held = others k within ∙ its.stands.held; are = its.stands.are };
         }
-    by_place id k x there None first is =
+    by_index id k x there None first is =
         let both : (bytes_eq (registration_key r) id ≡ true) × (length registrations ≡ k) = cond_some (bytes_eq (registration_key r) id) (length registrations) k is in
         let same : r ≡ x =
         same_Some r x (sym (get_behind registrations r []) ∙ (ap (λ (n : ℕ). slice_get (registrations ++ r ∷ []) n) both.1 ∙ there)) in
@@ -256,7 +251,7 @@ registered registrations change stay = ap (λ (o : Option HeldRegistration). wit
 -- its tallies stand for these statements
 pub held_stands : (running : SeenRunning) (founding : Option Founding) (courses : List Course) (registrations : List HeldRegistration) (those : List MarkedStatement) (r : HeldRegistration) (number : ℕ) (e : SeenEnrolment)
     → number_held r registrations ≡ Some number → enrolment_in founding courses r ≡ Some e → AreCounted running founding courses registrations those → TalliesStandFor running those number e
-held_stands running founding courses registrations those r number e is enrolled counted = by_place (index_under registration_key r.id registrations) refl is
+held_stands running founding courses registrations those r number e is enrolled counted = by_index (index_under registration_key r.id registrations) refl is
   where
     by_course : (k : ℕ) (h : HeldRegistration) (b : Bool) → index_under registration_key r.id registrations ≡ Some k → slice_get registrations k ≡ Some h → (h.course == r.course) ≡ b
         → (if b then Some k else None) ≡ Some number → TalliesStandFor running those number e
@@ -273,6 +268,6 @@ held_stands running founding courses registrations those r number e is enrolled 
     by_held k None index there is = absurd (none-some number is)
     by_held k (Some h) index there is = by_course k h (h.course == r.course) index there refl is
 
-    by_place : (o : Option ℕ) → index_under registration_key r.id registrations ≡ o → option_and_then (number_in r registrations) o ≡ Some number → TalliesStandFor running those number e
-    by_place None index is = absurd (none-some number is)
-    by_place (Some k) index is = by_held k (slice_get registrations k) index refl is
+    by_index : (o : Option ℕ) → index_under registration_key r.id registrations ≡ o → option_and_then (number_in r registrations) o ≡ Some number → TalliesStandFor running those number e
+    by_index None index is = absurd (none-some number is)
+    by_index (Some k) index is = by_held k (slice_get registrations k) index refl is

@@ -4,23 +4,24 @@ use Rattle.std.specs.Prelude.{option_and_then, position, find, is_some, if◌the
 use Rattle.std.specs.List.{position_from}
 use Rattle.std.specs.Option.{option_map_or}
 use Rattle.std.specs.Str.{bytes_eq}
+use Rattle.std.specs.Cmp.{first_so, second_so}
 use Rattle.std.proofs.lemmas.Grind.{common_steps}
 use Rattle.std.proofs.lemmas.Iterator.Adapters.{position_from-zero}
 use Rattle.std.proofs.lemmas.List.{take_more}
 use Rattle.std.proofs.lemmas.List.Folds.{list_any-append}
 use Rattle.std.proofs.lemmas.Option.{cond_some, get_or_from_slice_get, none-some, same_Some, slice_get_within}
 use Rattle.std.proofs.lemmas.Slice.Eq.{bytes_eq-Decides}
-use Rattle.cmi5_running_sessions.specs.Cmi5SessionMarked.{MarkedStatement, mark, marked, marked_by, statements_of}
+use Rattle.std.proofs.lemmas.Bool.{not-true, or_parts}
+use Rattle.cmi5_running_sessions.specs.Cmi5SessionMarked.{MarkedStatement, mark, marked, marked_by}
 use Rattle.lrs_ids.specs.Ids.{are_distinct}
 use Rattle.lrs_json.specs.View.{view}
 use Rattle.lrs_names.specs.Members.{is_one_of}
 use Rattle.lrs_parts.specs.Progress.{is_voided_anew, voided_anew}
 use Rattle.xapi_statement.specs.Statements.{add, add_each, ids_of, is_held, is_that_id, is_target, is_voided, position_referred, referred_at, voided_by, voids}
 use Rattle.cmi5_running_verdicts.specs.XapiIndexAddingProofs.{extends}
-use Rattle.cmi5_running_verdicts.specs.XapiIndexComingProofs.{not_true}
-use Rattle.cmi5_running_verdicts.specs.XapiIndexFirstsProofs.{get_first, lt_yes, place_first}
-use Rattle.cmi5_running_verdicts.specs.XapiIndexFoundProofs.{found_at, item_at}
-use Rattle.cmi5_running_verdicts.specs.XapiIndexRisingProofs.{left_true, right_true}
+use Rattle.cmi5_running_verdicts.specs.XapiIndexFirstsProofs.{get_first, lt_yes, index_first}
+use Rattle.cmi5_running_verdicts.specs.XapiIndexFoundProofs.{found_at}
+use Rattle.lrs_register.proofs.Firsts.{item-at}
 use Rattle.cmi5_running_verdicts.specs.XapiIndexSuppliesProofs.{used_held}
 use Rattle.xapi_rules.specs.Rules.{is_voiding}
 use Rattle.xapi_statement.specs.Statement.{target_of}
@@ -31,10 +32,6 @@ use Rattle.xapi_statement.specs.Stored.{StoredStatement}
 or_none : (b : Bool) → (b || false) ≡ b
 or_none true = refl
 or_none false = refl
-
-neither : (a b : Bool) → (a || b) ≡ false → (a ≡ false) × (b ≡ false)
-neither true b is = absurd (true≢false is)
-neither false b is = (refl, is)
 
 pub same_bytes : (a b : List ℕ) → bytes_eq a b ≡ true → a ≡ b
 same_bytes a b is = (bytes_eq-Decides a b).0 is
@@ -60,7 +57,7 @@ take_front : {A : Type 0} (xs ys : List A) → take (length xs) (xs ++ ys) ≡ x
 take_front [] ys = refl
 take_front (x ∷ xs) ys = ap (λ zs. x ∷ zs) (take_front xs ys)
 
-get_behind : {A : Type 0} (xs : List A) (y : A) (ys : List A) → slice_get (xs ++ y ∷ ys) (length xs) ≡ Some y
+pub get_behind : {A : Type 0} (xs : List A) (y : A) (ys : List A) → slice_get (xs ++ y ∷ ys) (length xs) ≡ Some y
 get_behind [] y ys = refl
 get_behind (x ∷ xs) y ys = get_behind xs y ys
 
@@ -71,7 +68,7 @@ front_few (suc n) (x ∷ xs) = omega (arith, front_few n xs)
 
 -- something stands at the first index that passes
 pub stands_there : {A : Type 0} (p : A → Bool) (xs : List A) (k : ℕ) → position p xs ≡ Some k → (y : A) × (slice_get xs k ≡ Some y)
-stands_there {A} p xs k at = by_item (find p xs) (item_at p xs (position p xs) k at refl) (sym (found_at p xs (position p xs) refl) ∙ ap (λ o. is_some o) at)
+stands_there {A} p xs k at = by_item (find p xs) (item-at p xs (position p xs) k at refl) (sym (found_at p xs (position p xs) refl) ∙ ap (λ o. is_some o) at)
   where
     by_item : (o : Option A) → slice_get xs k ≡ o → is_some o ≡ true → (y : A) × (slice_get xs k ≡ Some y)
     by_item None is some = absurd (true≢false (sym some))
@@ -88,7 +85,7 @@ found_passes p (x ∷ xs) y is = found_by p x xs y (found_passes p xs y) (p x) r
 
 -- and it passes
 pub passes_there : {A : Type 0} (p : A → Bool) (xs : List A) (k : ℕ) (y : A) → position p xs ≡ Some k → slice_get xs k ≡ Some y → p y ≡ true
-passes_there p xs k y at there = found_passes p xs y (sym (item_at p xs (position p xs) k at refl) ∙ there)
+passes_there p xs k y at there = found_passes p xs y (sym (item-at p xs (position p xs) k at refl) ∙ there)
 
 -- ---- ids of their own
 
@@ -102,36 +99,36 @@ among (x ∷ xs) (suc k) t id at same = by_test (bytes_eq x.id id) (among xs k t
     by_test true more = refl
     by_test false more = more
 
-place_by : (i : ℕ) (x : StoredStatement) (xs : List StoredStatement) (k : ℕ) (t : StoredStatement) → slice_get xs k ≡ Some t → is_one_of (ids_of xs) x.id ≡ false
+index_by : (i : ℕ) (x : StoredStatement) (xs : List StoredStatement) (k : ℕ) (t : StoredStatement) → slice_get xs k ≡ Some t → is_one_of (ids_of xs) x.id ≡ false
     → position_from (λ (u : StoredStatement). bytes_eq u.id t.id) (i + 1) xs ≡ Some (i + 1 + k) → (b : Bool) → bytes_eq x.id t.id ≡ b
     → cond b (Some i) (position_from (λ (u : StoredStatement). bytes_eq u.id t.id) (i + 1) xs) ≡ Some (i + suc k)
-place_by i x xs k t at apart rest true is = absurd (true≢false (sym (among xs k t x.id at (sym (same_bytes x.id t.id is))) ∙ apart))
-place_by i x xs k t at apart rest false is =
+index_by i x xs k t at apart rest true is = absurd (true≢false (sym (among xs k t x.id at (sym (same_bytes x.id t.id is))) ∙ apart))
+index_by i x xs k t at apart rest false is =
     let index : i + 1 + k ≡ i + suc k = omega arith in
     rest ∙ ap (λ (n : ℕ). Some n) index
 
-place_from : (i : ℕ) (xs : List StoredStatement) → are_distinct (ids_of xs) ≡ true → (k : ℕ) (t : StoredStatement) → slice_get xs k ≡ Some t
+index_from : (i : ℕ) (xs : List StoredStatement) → are_distinct (ids_of xs) ≡ true → (k : ℕ) (t : StoredStatement) → slice_get xs k ≡ Some t
     → position_from (λ (u : StoredStatement). bytes_eq u.id t.id) i xs ≡ Some (i + k)
-place_from i [] distinct k t at = absurd (none-some t at)
-place_from i (x ∷ xs) distinct zero t at =
+index_from i [] distinct k t at = absurd (none-some t at)
+index_from i (x ∷ xs) distinct zero t at =
     let here : bytes_eq x.id t.id ≡ true = bytes_same x.id t.id (ap (λ (u : StoredStatement). u.id) (same_Some x t at)) in
     let index : i ≡ i + zero = omega arith in
     ap (λ b. cond b (Some i) (position_from (λ (u : StoredStatement). bytes_eq u.id t.id) (i + 1) xs)) here ∙ ap (λ (n : ℕ). Some n) index
-place_from i (x ∷ xs) distinct (suc k) t at =
-    let apart : is_one_of (ids_of xs) x.id ≡ false = not_true (is_one_of (ids_of xs) x.id) (left_true (not (is_one_of (ids_of xs) x.id)) (are_distinct (ids_of xs)) distinct) in
-    place_by i x xs k t at apart (place_from (i + 1) xs (right_true (not (is_one_of (ids_of xs) x.id)) (are_distinct (ids_of xs)) distinct) k t at)
+index_from i (x ∷ xs) distinct (suc k) t at =
+    let apart : is_one_of (ids_of xs) x.id ≡ false = not-true (is_one_of (ids_of xs) x.id) (first_so (not (is_one_of (ids_of xs) x.id)) (are_distinct (ids_of xs)) distinct) in
+    index_by i x xs k t at apart (index_from (i + 1) xs (second_so (not (is_one_of (ids_of xs) x.id)) (are_distinct (ids_of xs)) distinct) k t at)
     (bytes_eq x.id t.id) refl
 
 -- each stands at the first index of its id
-pub place_of_id : (xs : List StoredStatement) → are_distinct (ids_of xs) ≡ true → (k : ℕ) (t : StoredStatement) → slice_get xs k ≡ Some t
+pub index_of_id : (xs : List StoredStatement) → are_distinct (ids_of xs) ≡ true → (k : ℕ) (t : StoredStatement) → slice_get xs k ≡ Some t
     → position (λ (u : StoredStatement). bytes_eq u.id t.id) xs ≡ Some k
-place_of_id xs distinct k t at =
+index_of_id xs distinct k t at =
     let index : 0 + k ≡ k = omega arith in
-    position_from-zero (λ (u : StoredStatement). bytes_eq u.id t.id) xs ∙ (place_from 0 xs distinct k t at ∙ ap (λ (n : ℕ). Some n) index)
+    position_from-zero (λ (u : StoredStatement). bytes_eq u.id t.id) xs ∙ (index_from 0 xs distinct k t at ∙ ap (λ (n : ℕ). Some n) index)
 
-pub same_place : (xs : List StoredStatement) → are_distinct (ids_of xs) ≡ true → (j k : ℕ) (s t : StoredStatement) → slice_get xs j ≡ Some s → slice_get xs k ≡ Some t → s.id ≡ t.id → j ≡ k
-same_place xs distinct j k s t one other same =
-    same_Some j k (sym (place_of_id xs distinct j s one) ∙ (ap (λ (id : List ℕ). position (λ (u : StoredStatement). bytes_eq u.id id) xs) same ∙ place_of_id xs distinct k t other))
+pub same_index : (xs : List StoredStatement) → are_distinct (ids_of xs) ≡ true → (j k : ℕ) (s t : StoredStatement) → slice_get xs j ≡ Some s → slice_get xs k ≡ Some t → s.id ≡ t.id → j ≡ k
+same_index xs distinct j k s t one other same =
+    same_Some j k (sym (index_of_id xs distinct j s one) ∙ (ap (λ (id : List ℕ). position (λ (u : StoredStatement). bytes_eq u.id id) xs) same ∙ index_of_id xs distinct k t other))
 
 one_of_more : (xs : List StoredStatement) (s : StoredStatement) (id : List ℕ) → is_one_of (ids_of (xs ++ s ∷ [])) id ≡ (is_one_of (ids_of xs) id || bytes_eq s.id id)
 one_of_more [] s id = or_none (bytes_eq s.id id)
@@ -145,17 +142,17 @@ one_of_more (x ∷ xs) s id = by_test (bytes_eq x.id id) (one_of_more xs s id)
 distinct_push : (held : List StoredStatement) (s : StoredStatement) → are_distinct (ids_of held) ≡ true → is_one_of (ids_of held) s.id ≡ false → are_distinct (ids_of (held ++ s ∷ [])) ≡ true
 distinct_push [] s distinct apart = refl
 distinct_push (x ∷ xs) s distinct apart =
-    ap (λ b. not b && are_distinct (ids_of (xs ++ s ∷ []))) none ∙ distinct_push xs s (right_true (not (is_one_of (ids_of xs) x.id)) (are_distinct (ids_of xs)) distinct) both.1
+    ap (λ b. not b && are_distinct (ids_of (xs ++ s ∷ []))) none ∙ distinct_push xs s (second_so (not (is_one_of (ids_of xs) x.id)) (are_distinct (ids_of xs)) distinct) both.1
   where
     both : (bytes_eq x.id s.id ≡ false) × (is_one_of (ids_of xs) s.id ≡ false)
-    both = neither (bytes_eq x.id s.id) (is_one_of (ids_of xs) s.id) apart
+    both = or_parts (bytes_eq x.id s.id) (is_one_of (ids_of xs) s.id) apart
 
     other : (b : Bool) → bytes_eq s.id x.id ≡ b → b ≡ false
     other true is = absurd (true≢false (sym (bytes_same x.id s.id (sym (same_bytes s.id x.id is))) ∙ both.0))
     other false is = refl
 
     first : is_one_of (ids_of xs) x.id ≡ false
-    first = not_true (is_one_of (ids_of xs) x.id) (left_true (not (is_one_of (ids_of xs) x.id)) (are_distinct (ids_of xs)) distinct)
+    first = not-true (is_one_of (ids_of xs) x.id) (first_so (not (is_one_of (ids_of xs) x.id)) (are_distinct (ids_of xs)) distinct)
 
     none : is_one_of (ids_of (xs ++ s ∷ [])) x.id ≡ false
     none = one_of_more xs s x.id ∙ (ap (λ b. b || bytes_eq s.id x.id) first ∙ other (bytes_eq s.id x.id) refl)
@@ -190,10 +187,6 @@ next_added held xs x =
     ap (λ (ys : List StoredStatement). slice_get ys (length held)) (behind.1 ∙ append_assoc held (x ∷ []) behind.0) ∙ get_behind held x behind.0
 
 -- ---- marks
-
-pub statements_back : (those xs : List StoredStatement) → statements_of (marked_by those xs) ≡ xs
-statements_back those [] = refl
-statements_back those (x ∷ xs) = ap (λ (ys : List StoredStatement). x ∷ ys) (statements_back those xs)
 
 pub marks_long : (those xs : List StoredStatement) → length (marked_by those xs) ≡ length xs
 marks_long those [] = refl
@@ -304,10 +297,10 @@ refers all at k s t distinct there other before is =
     let front : List StoredStatement = take (at + 1) all in
     let target : target_of (view s.received) ≡ Some t.id = (voiding_target t.id s is).0 in
     let on : nat_lt k (at + 1) ≡ true = lt_yes k (at + 1) (omega (arith, before)) in
-    let index : position (λ (u : StoredStatement). bytes_eq u.id t.id) all ≡ Some k = place_of_id all distinct k t other in
+    let index : position (λ (u : StoredStatement). bytes_eq u.id t.id) all ≡ Some k = index_of_id all distinct k t other in
     ap (λ (o : Option StoredStatement). option_and_then (position_referred front) o) (get_first (at + 1) all at (omega arith) ∙ there)
     ∙ (ap (λ (o : Option (List ℕ)). option_and_then (λ (id : List ℕ). position (λ (u : StoredStatement). bytes_eq u.id id) front) o) target
-    ∙ sym (place_first (λ (u : StoredStatement). bytes_eq u.id t.id) (at + 1) all (position (λ (u : StoredStatement). bytes_eq u.id t.id) all) k index refl on))
+    ∙ sym (index_first (λ (u : StoredStatement). bytes_eq u.id t.id) (at + 1) all (position (λ (u : StoredStatement). bytes_eq u.id t.id) all) k index refl on))
 
 anew : (all : List StoredStatement) (at k : ℕ) (t : StoredStatement) → slice_get all k ≡ Some t → is_voided (take at all) t ≡ false → is_voided (take (at + 1) all) t ≡ true → is_voided_anew all at k ≡ true
 anew all at k t there old new =
@@ -365,17 +358,17 @@ found_anew all at q is = by_item (slice_get all q) refl is
     by_item (Some x) at_q is = record {
       item = x;
       there = at_q;
-      old = not_true (is_voided (take at all) x) (left_true (not (is_voided (take at all) x)) (is_voided (take (at + 1) all) x) is);
-      new = right_true (not (is_voided (take at all) x)) (is_voided (take (at + 1) all) x) is;
+      old = not-true (is_voided (take at all) x) (first_so (not (is_voided (take at all) x)) (is_voided (take (at + 1) all) x) is);
+      new = second_so (not (is_voided (take at all) x)) (is_voided (take (at + 1) all) x) is;
     }
 
-place_anew : (all : List StoredStatement) (at q : ℕ) → voided_anew all at ≡ Some q → (referred_at (take (at + 1) all) at ≡ Some q) × (is_voided_anew all at q ≡ true)
-place_anew all at q is = by_place (referred_at (take (at + 1) all) at) refl is
+index_anew : (all : List StoredStatement) (at q : ℕ) → voided_anew all at ≡ Some q → (referred_at (take (at + 1) all) at ≡ Some q) × (is_voided_anew all at q ≡ true)
+index_anew all at q is = by_index (referred_at (take (at + 1) all) at) refl is
   where
-    by_place : (o : Option ℕ) → referred_at (take (at + 1) all) at ≡ o → option_and_then (λ (position : ℕ). if is_voided_anew all at position then Some position else None) o ≡ Some q
+    by_index : (o : Option ℕ) → referred_at (take (at + 1) all) at ≡ o → option_and_then (λ (position : ℕ). if is_voided_anew all at position then Some position else None) o ≡ Some q
         → (referred_at (take (at + 1) all) at ≡ Some q) × (is_voided_anew all at q ≡ true)
-    by_place None refers is = absurd (none-some q is)
-    by_place (Some p) refers is =
+    by_index None refers is = absurd (none-some q is)
+    by_index (Some p) refers is =
         let both : (is_voided_anew all at p ≡ true) × (p ≡ q) = cond_some (is_voided_anew all at p) p q is in
         (refers ∙ ap (λ (n : ℕ). Some n) both.1, subst (λ (n : ℕ). is_voided_anew all at n ≡ true) both.1 both.0)
 
@@ -417,7 +410,7 @@ voiding_at all at s q distinct there is = record {
 }
   where
     index : (referred_at (take (at + 1) all) at ≡ Some q) × (is_voided_anew all at q ≡ true)
-    index = place_anew all at q is
+    index = index_anew all at q is
 
     found : Found all at q
     found = found_anew all at q index.1
@@ -444,7 +437,7 @@ voiding_at all at s q distinct there is = record {
     others : (k : ℕ) (t : StoredStatement) → slice_get (take at all) k ≡ Some t → (k ≡ q → ⊥) → is_voided (take (at + 1) all) t ≡ is_voided (take at all) t
     others k t here apart =
         other_stays all at s t there
-        (λ both. apart (same_place all distinct k q t found.item (within_front at all k t here).1 found.there (one_target t.id found.item.id s both only.0)))
+        (λ both. apart (same_index all distinct k q t found.item (within_front at all k t here).1 found.there (one_target t.id found.item.id s both only.0)))
 
     parts : Parted (take (at + 1) all) (take at all) (take at all) found.item
     parts = parted_at (take (at + 1) all) (take at all) (take at all) q found.item within others

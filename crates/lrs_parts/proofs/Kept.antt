@@ -4,10 +4,9 @@ use Rattle.std.specs.Prelude.{◌⊎◌, is_some, true}
 use Rattle.std.specs.List.{list_any}
 use Rattle.std.specs.Map.{lookup}
 use Rattle.std.specs.Option.{option_map_or}
-use Rattle.std.specs.Str.{bytes_eq}
 use Rattle.std.proofs.lemmas.Option.{none-some}
 use Rattle.cmi5_course.specs.Courses.{Course}
-use Rattle.cmi5_running_sessions.specs.Kept.{SeenSessions, SaidStandsFor, is_same, nothing_reached, nothing_said, own_of, own_said, reached_in, reached_of, unit_of, units_of}
+use Rattle.cmi5_running_sessions.specs.Kept.{SeenSessions, SaidStandsFor, is_same, nothing_reached, nothing_said, own_said, reached_in, unit_of, units_of}
 use Rattle.cmi5_running_sessions.specs.Room.{AddsNoSlots, HasOwnSlot, HasSlotsFor, HasUnitSlot, KeepsSlots, KeepsSame, MakesSlots, TakesSlotsBack, needs_own, needs_unit}
 use Rattle.cmi5_running_sessions.specs.declared.own.OwnSaid.{OwnSaid}
 use Rattle.cmi5_running_sessions.specs.declared.units.Reached.{Reached}
@@ -31,15 +30,6 @@ use Rattle.xapi_statement.specs.Statements.{ids_of}
 use Rattle.xapi_statement.specs.Stored.{StoredStatement}
 
 -- ---- slots for what is said
-
-pub none_said : (statements : List StoredStatement) (s : SeenSessions) → MakesSlots statements s s
-none_said statements s = record {
-  same = record { own = λ id. refl; reached = λ registration activity. refl };
-  own = λ id has. inl has;
-  unit = λ registration activity has. inl has;
-  units = λ registration has. inl has;
-  filled = λ registration holds. holds;
-}
 
 pub slots_kept : (s : SeenSessions) → KeepsSlots s s
 slots_kept s = record { own = λ id has. has; unit = λ registration activity has. has }

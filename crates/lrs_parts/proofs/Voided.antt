@@ -8,11 +8,11 @@ use Rattle.std.proofs.lemmas.List.{take_more}
 use Rattle.std.proofs.lemmas.Option.{cond_some, none-some, same_Some, slice_get_read}
 use Rattle.lrs_ids.specs.Ids.{are_distinct}
 use Rattle.lrs_parts.specs.Trees.{AreTargets, voided_in}
-use Rattle.lrs_parts.proofs.Events.{bytes_same, place_of_id, same_bytes}
+use Rattle.lrs_parts.proofs.Events.{bytes_same, index_of_id, same_bytes}
 use Rattle.lrs_register.specs.Register.{with_new}
 use Rattle.xapi_statement.specs.Statements.{add, add_each, held_under, ids_of, is_held, is_that_id, voided_by, voids}
 use Rattle.cmi5_running_verdicts.specs.XapiIndexAddingProofs.{add-new, add-old}
-use Rattle.cmi5_running_verdicts.specs.XapiIndexFoundProofs.{item_at}
+use Rattle.lrs_register.proofs.Firsts.{item-at}
 use Rattle.xapi_statement.specs.Stored.{StoredStatement}
 
 -- ---- lists
@@ -34,10 +34,6 @@ each_still P Q still (x ∷ xs) each = (still x each.0, each_still P Q still xs 
 pub some_item : {A : Type 0} (o : Option A) → is_some o ≡ true → (x : A) × (o ≡ Some x)
 some_item None is = absurd (true≢false (sym is))
 some_item (Some x) is = (x, refl)
-
-pub no_item : {A : Type 0} (o : Option A) → is_some o ≡ false → o ≡ None
-no_item None is = refl
-no_item (Some x) is = absurd (true≢false is)
 
 -- ---- the first of an id
 
@@ -126,7 +122,7 @@ voided_there all s t q distinct at is = by_target (voided_by s) is
   where
     there : held_under t.id all ≡ Some t
     there =
-        sym (item_at (λ (u : StoredStatement). bytes_eq u.id t.id) all (position (λ (u : StoredStatement). bytes_eq u.id t.id) all) q (place_of_id all distinct q t at) refl) ∙ at
+        sym (item-at (λ (u : StoredStatement). bytes_eq u.id t.id) all (position (λ (u : StoredStatement). bytes_eq u.id t.id) all) q (index_of_id all distinct q t at) refl) ∙ at
 
     by_target : (o : Option (List ℕ)) → is_that_id t.id o ≡ true → option_and_then (λ (id : List ℕ). held_under id all) o ≡ Some t
     by_target None is = absurd (true≢false (sym is))

@@ -18,8 +18,9 @@ use Rattle.lrs_state.specs.declared.providers.HeldProvider.{HeldProvider}
 use Rattle.lrs_parts.specs.Progress.{IsProgressReadyFor}
 use Rattle.cmi5_running_sessions.specs.Room as room
 use Rattle.lrs_register.specs.Register.{Registered}
-use Rattle.xapi_docs.specs.Docs as docs
+use Rattle.lrs_register.specs.Slots.{AddsNoSlot, MakesSlots}
 use Rattle.xapi_docs.specs.Docs.{HasRoomForDocuments, Slots, documents_in, is_written}
+use Rattle.xapi_docs.specs.XapiKeysKeys.{key_cmp}
 use Rattle.cmi5_running_verdicts.specs.XapiIndexIndex.{HoldsNothingAhead, Indexed, IsIndexReadyFor}
 use Rattle.xapi_statement.specs.Statements.{ids_of}
 
@@ -76,7 +77,7 @@ pub record IsReadyFor (parts : SeenParts) (effect : Effect) : Type 0 where
 -- that stands ahead is taken back.
 pub record MakesSlotsFor (old new : SeenParts) (effect : Effect) : Type 0 where
   pub providers : MakesSlotFor (slice_cmp nat_cmp) token_of effect.providers old.providers new.providers
-  pub documents : docs.MakesSlots (is_written effect.documents) old.documents new.documents
+  pub documents : MakesSlots key_cmp (is_written effect.documents) old.documents new.documents
   pub learning : MakesLearningSlots old.learning new.learning effect
   pub sessions : room.MakesSlots effect.statements old.progress.sessions new.progress.sessions
 
@@ -91,7 +92,7 @@ pub record HoldsNothingMore (parts : SeenParts) : Type 0 where
 pub record AddsNoSlots (old new : SeenParts) : Type 0 where
   pub providers : AddsNone (slice_cmp nat_cmp) old.providers new.providers
   pub statements : HoldsNothingAhead new.statements ⊎ (new.statements ≡ old.statements)
-  pub documents : docs.AddsNoSlot old.documents new.documents
+  pub documents : AddsNoSlot key_cmp old.documents new.documents
   pub learning : AddsNoLearningSlots old.learning new.learning
   pub sessions : room.AddsNoSlots old.progress.sessions new.progress.sessions
   pub running : (new.progress.running.coming ≡ None) ⊎ (new.progress.running ≡ old.progress.running)

@@ -5,7 +5,7 @@ use Rattle.std.specs.Prelude.{IsTrue, option_and_then, option_map, slice_get, if
 use Rattle.std.specs.Option.{option_map_or}
 use Rattle.std.specs.Str.{bytes_eq}
 use Rattle.cmi5_course.specs.Courses.{Course}
-use Rattle.cmi5_running_sessions.specs.Kept.{SeenSessions, SaidStandsFor}
+use Rattle.cmi5_running_sessions.specs.Kept.{SaidStandsFor}
 use Rattle.cmi5_running_sessions.specs.Room.{HasSlotsForEach}
 use Rattle.cmi5_running_verdicts.specs.Running.{HasCounted, SeenRunning, TalliesStandFor}
 use Rattle.cmi5_running_sessions.specs.Cmi5SessionMarked.{MarkedStatement, marked}
@@ -106,12 +106,13 @@ voided_anew statements at = option_and_then
     (referred_at (take (at + 1) statements) at)
 
 -- a statement that came is the one at a position
-abbrev pub is_at : StoredStatement → List StoredStatement → ℕ → Bool
-is_at s statements at = option_map_or (λ (t : StoredStatement). bytes_eq t.id s.id) (slice_get statements at) false
+abbrev pub is_statement_at : StoredStatement → List StoredStatement → ℕ → Bool
+is_statement_at s statements at =
+    option_map_or (λ (t : StoredStatement). bytes_eq t.id s.id) (slice_get statements at) false
 
 -- where the next one stands: behind that position, or there if this one's id was held
 abbrev pub index_behind : StoredStatement → List StoredStatement → ℕ → ℕ
-index_behind s statements at = if is_at s statements at then at + 1 else at
+index_behind s statements at = if is_statement_at s statements at then at + 1 else at
 
 -- ---- room
 

@@ -11,7 +11,7 @@ ghost use Rattle.cmi5_running_sessions.specs.Cmi5SessionMarked.{MarkedStatement,
 ghost use Rattle.cmi5_running_verdicts.specs.Cmi5VerdictNodes.{SeenEnrolment, seen};
 ghost use Rattle.lrs_ids.specs.Ids.{are_distinct};
 ghost use Rattle.lrs_parts.specs.Progress.{AreCounted, KeepsUp, IsUpToDate, IsReadyToEnrol};
-ghost use Rattle.lrs_parts.specs.Progress.{enrolment_at, enrolment_in, enrolment_with, is_at, is_voided_anew};
+ghost use Rattle.lrs_parts.specs.Progress.{enrolment_at, enrolment_in, enrolment_with, is_statement_at, is_voided_anew};
 ghost use Rattle.lrs_parts.specs.Progress.{number_named, index_behind, voided_anew};
 ghost use Rattle.lrs_parts.specs.Trees.{AreTargets, voided_in};
 ghost use Rattle.lrs_state.specs.declared.founding.Founding.{Founding as SpecFounding};
@@ -201,7 +201,7 @@ fn follow_next(
     at: usize,
 ) -> usize
     requires distinct { IsTrue (are_distinct (ids_of statements.now.held)) }
-    requires there { is_at statement.now statements.now.held at ≡ true
+    requires there { is_statement_at statement.now statements.now.held at ≡ true
         → slice_get statements.now.held at ≡ Some statement.now }
     requires slots { HasSlotsFor progress.old.sessions statement.now }
     requires voided { option_copied voided ≡ voided_in statements.now.held statement.now }
@@ -233,7 +233,7 @@ fn follow_at(
 ) -> usize
     requires few { at + 1 < 2 ^ 64 }
     requires distinct { IsTrue (are_distinct (ids_of statements.now.held)) }
-    requires there { is_at statement.now statements.now.held at ≡ true
+    requires there { is_statement_at statement.now statements.now.held at ≡ true
         → slice_get statements.now.held at ≡ Some statement.now }
     requires slots { HasSlotsFor progress.old.sessions statement.now }
     requires voided { option_copied voided ≡ voided_in statements.now.held statement.now }
@@ -244,7 +244,7 @@ fn follow_at(
         (marked (take result statements.now.held)) }
     ensures slots { KeepsSlots progress.old.sessions progress.new.sessions }
 {
-    if is_at(statements, statement, at) {
+    if is_statement_at(statements, statement, at) {
         follow(
             progress, founding, learning, statements, statement, voided, at,
         );
@@ -255,8 +255,8 @@ fn follow_at(
 }
 
 // Whether a statement that came is the one at a position.
-fn is_at(statements: &Index, statement: &StoredStatement, at: usize) -> bool
-    ensures { result ≡ is_at statement.now statements.now.held at }
+fn is_statement_at(statements: &Index, statement: &StoredStatement, at: usize) -> bool
+    ensures { result ≡ is_statement_at statement.now statements.now.held at }
 {
     match statements.get(at) {
         Some(held) => is_same_id(held.id(), statement.id()),

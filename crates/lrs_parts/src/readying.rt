@@ -10,8 +10,9 @@ ghost use Rattle.lrs_state.specs.Learning.{IsLearningReadyFor, KeepsLearning, Ma
 ghost use Rattle.lrs_parts.specs.Progress.{IsEnrolmentOf, IsProgressReadyFor};
 ghost use Rattle.lrs_state.specs.Providers.{token_of};
 ghost use Rattle.lrs_state.specs.declared.registrations.HeldRegistration.{HeldRegistration as SpecRegistration};
-ghost use Rattle.xapi_docs.specs.Docs as docs;
+ghost use Rattle.lrs_register.specs.Slots.{MakesSlots};
 ghost use Rattle.xapi_docs.specs.Docs.{HasRoomForDocuments, documents_in, is_written};
+ghost use Rattle.xapi_docs.specs.XapiKeysKeys.{key_cmp};
 ghost use Rattle.std.specs.Vec.Iter.{into_iter_items};
 ghost use Rattle.cmi5_running_verdicts.specs.XapiIndexAhead.{AreTextsOf};
 ghost use Rattle.cmi5_running_verdicts.specs.XapiIndexIndex.{IsIndexReadyFor};
@@ -144,7 +145,7 @@ pub(crate) fn ready_each(
     ensures made_sessions { room.MakesSlots effect.now.statements progress.old.sessions progress.new.sessions }
     ensures made_providers { MakesSlotFor (slice_cmp nat_cmp) token_of effect.now.providers
         providers.old providers.new }
-    ensures made_documents { docs.MakesSlots (is_written effect.now.documents) documents.old documents.new }
+    ensures made_documents { MakesSlots key_cmp (is_written effect.now.documents) documents.old documents.new }
     ensures made_learning { MakesLearningSlots learning.old learning.new effect.now }
 {
     ready_progress(progress, founding, &learning.courses, statements, effect)?;

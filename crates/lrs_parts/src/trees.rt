@@ -7,6 +7,7 @@ ghost use Rattle.lrs_parts.specs.Trees.{AreTargets, voided_in};
 ghost use Rattle.lrs_register.specs.Register.{with_new};
 ghost use Rattle.xapi_statement.specs.Statements.{held_under, voided_by};
 
+use cmi5_running_verdicts::cmi5_verdict::voided_by;
 use cmi5_running_verdicts::xapi_index::Index;
 use lrs_json::{Items, Memory};
 use lrs_names::Id;
@@ -69,17 +70,6 @@ fn held_voided<'a>(statements: &'a Index, statement: &StoredStatement) -> Option
     match voided_by(statement) {
         Some(id) => statements.find(&id),
         None => None,
-    }
-}
-
-// The id of the statement that this one voids.
-fn voided_by(statement: &StoredStatement) -> Option<Id>
-    ensures { result ≡ voided_by statement.now }
-{
-    if statement.is_voiding() {
-        statement.target()
-    } else {
-        None
     }
 }
 

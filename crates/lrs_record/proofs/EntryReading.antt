@@ -4,11 +4,11 @@ use Rattle.std.proofs.lemmas.Bool.{and_parts}
 use Rattle.std.specs.Fmt.{decimal}
 use Rattle.lrs_fields.specs.LrsDecimalNumbers.{Ends, IsNumber}
 use Rattle.lrs_fields.specs.Digits.{HoldsDraw, draw_text}
-use Rattle.lrs_fields.specs.Reading.{IsKept, Reads, field_text}
+use Rattle.lrs_fields.specs.Reading.{IsKeptValue, Reads, field_text}
 use Rattle.lrs_fields.specs.Values.{members_for, text_value}
 use Rattle.lrs_fields.proofs.FieldValues.{IsNumber-decimal, spelled_text}
 use Rattle.lrs_fields.proofs.Sequences.{before, behind, both_stand, both_text, made, mapped, paired, two}
-use Rattle.lrs_fields.proofs.Words.{IsUtf8-small, are_small}
+use Rattle.lrs_json.proofs.SmallBytes.{IsUtf8-small, are_small}
 use Rattle.lrs_fields.proofs.Apart.{are_apart}
 use Rattle.lrs_json.specs.Json.{Json, string}
 use Rattle.lrs_json.specs.Texts.{member_text}
@@ -54,12 +54,12 @@ opening_parts : (name : List ℕ) → opening_text name ≡ before at_command (c
 unfolding escaped
 opening_parts name = simp append_assoc refl
 
-one_opening : (old new : List ℕ) (r : Result (List ℕ) Stop) → Reads (before at_command (codes ":{")) (IsKept text_value) Anything old r new → Reads opening_text IsUtf8 Anything old (mapped (λ name. name) r) new
+one_opening : (old new : List ℕ) (r : Result (List ℕ) Stop) → Reads (before at_command (codes ":{")) (IsKeptValue text_value) Anything old r new → Reads opening_text IsUtf8 Anything old (mapped (λ name. name) r) new
 one_opening old new r =
-    made (λ name. name) (before at_command (codes ":{")) opening_text (IsKept text_value) IsUtf8 Anything Anything old new r
+    made (λ name. name) (before at_command (codes ":{")) opening_text (IsKeptValue text_value) IsUtf8 Anything Anything old new r
     (λ name is. (is.0, opening_parts name)) (λ name rest is whole. (name, (is, tt), refl)) (λ rest f. f)
 
-pub opening_read : (old new : List ℕ) (r : Result (List ℕ) Stop) → Reads (before at_command (codes ":{")) (IsKept text_value) Anything old r new → Reads opening_text IsUtf8 Anything old r new
+pub opening_read : (old new : List ℕ) (r : Result (List ℕ) Stop) → Reads (before at_command (codes ":{")) (IsKeptValue text_value) Anything old r new → Reads opening_text IsUtf8 Anything old r new
 opening_read old new (Ok name) reads = one_opening old new (Ok name) reads
 opening_read old new (Err e) reads = one_opening old new (Err e) reads
 

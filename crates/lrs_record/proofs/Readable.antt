@@ -6,7 +6,8 @@ use Rattle.std.proofs.lemmas.Str.{IsUtf8-nil}
 use Rattle.lrs_fields.proofs.Apart.{are_apart}
 use Rattle.lrs_fields.proofs.Decimals.{Fits-decimal}
 use Rattle.lrs_fields.proofs.Fitting.{Fits-fields}
-use Rattle.lrs_fields.proofs.Words.{IsUtf8-draw_text, IsUtf8-small, are_small}
+use Rattle.lrs_json.proofs.SmallBytes.{IsUtf8-small, are_small}
+use Rattle.lrs_fields.proofs.Words.{IsUtf8-draw_text}
 use Rattle.lrs_json.specs.Fits.{Fits}
 use Rattle.lrs_json.specs.Json.{number}
 use Rattle.lrs_record.specs.Entries.{HoldsCaller, HoldsWrite, IsLawful, IsLawfulWrite, caller_text, write_json, entry_json}

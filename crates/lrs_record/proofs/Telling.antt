@@ -7,14 +7,14 @@ use Rattle.cmi5_course.specs.declared.launch.Mode.{Mode}
 use Rattle.cmi5_course.specs.declared.reason.Reason.{Reason}
 use Rattle.lrs_agents.specs.Identifiers.{identifier_of}
 use Rattle.lrs_agents.specs.declared.identifiers.Ifi.{Ifi}
-use Rattle.lrs_fields.specs.Reading.{IsKept}
+use Rattle.lrs_fields.specs.Reading.{IsKeptValue}
 use Rattle.lrs_fields.specs.Values.{Value, actor_value, agent_value, bytes_value, id_value, iri_value, number_value, text_value, tree_value, trees_value}
 use Rattle.lrs_fields.specs.Values.{members_for, optional_field, value_json}
 use Rattle.lrs_fields.proofs.Decoded.{read_actor, read_agent, read_bytes, read_id, read_iri, read_number, read_tree, read_trees}
 use Rattle.lrs_fields.proofs.Decoding.{actor_in, bytes_in, id_in, iri_in, number_in, tree_in, trees_in}
 use Rattle.lrs_fields.proofs.ManyTrees.{shallow_trees}
 use Rattle.lrs_json.specs.Json.{Json, string}
-use Rattle.lrs_names.specs.Members.{text_of}
+use Rattle.lrs_json.specs.Parts.{text_in}
 use Rattle.lrs_record.specs.Reading.{IsKeptWrite}
 use Rattle.lrs_record.specs.Writes.{how_of, write_fields, write_name}
 use Rattle.lrs_record.specs.declared.entry.How.{How}
@@ -30,14 +30,14 @@ use Rattle.lrs_record.proofs.Writes.{only_abandon, only_course, only_drop, only_
 
 -- What it is kept as tells it.
 abbrev IsTold : {A : Type 0} → (A → Value) → Type 0
-IsTold {A} value = (a b : A) → IsKept value a → IsKept value b → value_json (value a) ≡ value_json (value b) → a ≡ b
+IsTold {A} value = (a b : A) → IsKeptValue value a → IsKeptValue value b → value_json (value a) ≡ value_json (value b) → a ≡ b
 
 -- it can be read of that
-told_by : {A : Type 0} (value : A → Value) (read : Json → Option A) → ((a : A) → IsKept value a → read (value_json (value a)) ≡ Some a) → IsTold value
+told_by : {A : Type 0} (value : A → Value) (read : Json → Option A) → ((a : A) → IsKeptValue value a → read (value_json (value a)) ≡ Some a) → IsTold value
 told_by value read again a b x y same = let twice : Some a ≡ Some b = sym (again a x) ∙ ap read same ∙ again b y in cc twice
 
 text_told : IsTold text_value
-text_told = told_by text_value text_of (λ text is. refl)
+text_told = told_by text_value text_in (λ text is. refl)
 
 id_told : IsTold id_value
 id_told = told_by id_value id_in (λ id is. read_id id is.0)
@@ -64,13 +64,13 @@ number_told : IsTold number_value
 number_told = told_by number_value number_in (λ n is. read_number n is.0)
 
 how_told : IsTold how_value
-how_told = told_by how_value (λ json. option_and_then how_of (text_of json)) (λ h is. read_how h)
+how_told = told_by how_value (λ json. option_and_then how_of (text_in json)) (λ h is. read_how h)
 
 mode_told : IsTold mode_value
-mode_told = told_by mode_value (λ json. option_and_then mode_of (text_of json)) (λ mode is. read_mode mode)
+mode_told = told_by mode_value (λ json. option_and_then mode_of (text_in json)) (λ mode is. read_mode mode)
 
 reason_told : IsTold reason_value
-reason_told = told_by reason_value (λ json. option_and_then reason_of (text_of json)) (λ reason is. read_reason reason)
+reason_told = told_by reason_value (λ json. option_and_then reason_of (text_in json)) (λ reason is. read_reason reason)
 
 -- ---- fields one after the other
 

@@ -8,16 +8,16 @@ use Rattle.cmi5_course.specs.declared.launch.Mode.{Mode}
 use Rattle.cmi5_course.specs.declared.launch.Mode.TheVariants.{Normal, Browse, Review}
 use Rattle.cmi5_course.specs.declared.reason.Reason.{Reason}
 use Rattle.cmi5_course.specs.declared.reason.Reason.TheVariants.{TestedOut, EquivalentAu, EquivalentOutsideActivity, Administrative}
-use Rattle.lrs_fields.specs.Reading.{IsKept, ReadsField, ReadsSpelling}
+use Rattle.lrs_fields.specs.Reading.{IsKeptValue, ReadsField, ReadsSpelling}
 use Rattle.lrs_fields.specs.Values.{Value, text_value}
 use Rattle.lrs_fields.proofs.FieldValues.{spelled, unspelled}
-use Rattle.lrs_fields.proofs.Words.{IsUtf8-small}
+use Rattle.lrs_json.proofs.SmallBytes.{IsUtf8-small}
 use Rattle.lrs_json_reader.specs.declared.cursor.Stop.{Stop}
 use Rattle.lrs_json_reader.specs.declared.cursor.Stop.TheVariants.{Bad}
 use Rattle.lrs_record.specs.Writes.{how_of, how_text}
 use Rattle.lrs_record.specs.declared.entry.How.{How}
 use Rattle.lrs_record.specs.declared.entry.How.TheVariants as how
-use Rattle.std.proofs.lemmas.Slice.Eq.{bytes_eq-Decides}
+use Rattle.lrs_agents.proofs.SameAgents.{same_bytes}
 
 abbrev pub how_value : How → Value
 how_value h = text_value (how_text h)
@@ -55,13 +55,10 @@ read_reason EquivalentAu = refl
 read_reason EquivalentOutsideActivity = refl
 read_reason Administrative = refl
 
-same_word : (text word : List ℕ) → bytes_eq text word ≡ true → text ≡ word
-same_word text word is = (bytes_eq-Decides text word).0 is
-
 how_at : (text : List ℕ) (p q : Bool) (a : How) → bytes_eq text (codes "put") ≡ p → bytes_eq text (codes "post") ≡ q → (if p then Some how.Put else (if q then Some how.Post else None)) ≡ Some a
     → text ≡ how_text a
-how_at text true q a x y e = same_word text _ x ∙ ap how_text (let same : how.Put ≡ a = cc e in same)
-how_at text false true a x y e = same_word text _ y ∙ ap how_text (let same : how.Post ≡ a = cc e in same)
+how_at text true q a x y e = same_bytes text _ x ∙ ap how_text (let same : how.Put ≡ a = cc e in same)
+how_at text false true a x y e = same_bytes text _ y ∙ ap how_text (let same : how.Post ≡ a = cc e in same)
 how_at text false false a x y e = absurd (cc e)
 
 how_own : (text : List ℕ) (a : How) → how_of text ≡ Some a → text ≡ how_text a
@@ -69,9 +66,9 @@ how_own text a e = how_at text (bytes_eq text (codes "put")) (bytes_eq text (cod
 
 mode_at : (text : List ℕ) (p q r : Bool) (a : Mode) → bytes_eq text (mode_text Normal) ≡ p → bytes_eq text (mode_text Browse) ≡ q → bytes_eq text (mode_text Review) ≡ r
     → (if p then Some Normal else (if q then Some Browse else (if r then Some Review else None))) ≡ Some a → text ≡ mode_text a
-mode_at text true q r a x y z e = same_word text _ x ∙ ap mode_text (let same : Normal ≡ a = cc e in same)
-mode_at text false true r a x y z e = same_word text _ y ∙ ap mode_text (let same : Browse ≡ a = cc e in same)
-mode_at text false false true a x y z e = same_word text _ z ∙ ap mode_text (let same : Review ≡ a = cc e in same)
+mode_at text true q r a x y z e = same_bytes text _ x ∙ ap mode_text (let same : Normal ≡ a = cc e in same)
+mode_at text false true r a x y z e = same_bytes text _ y ∙ ap mode_text (let same : Browse ≡ a = cc e in same)
+mode_at text false false true a x y z e = same_bytes text _ z ∙ ap mode_text (let same : Review ≡ a = cc e in same)
 mode_at text false false false a x y z e = absurd (cc e)
 
 mode_own : (text : List ℕ) (a : Mode) → mode_of text ≡ Some a → text ≡ mode_text a
@@ -81,10 +78,10 @@ mode_own text a e = mode_at text (bytes_eq text (mode_text Normal)) (bytes_eq te
 reason_at : (text : List ℕ) (p q r s : Bool) (a : Reason) → bytes_eq text (reason_text TestedOut) ≡ p → bytes_eq text (reason_text EquivalentAu) ≡ q → bytes_eq text (reason_text EquivalentOutsideActivity) ≡ r
     → bytes_eq text (reason_text Administrative) ≡ s
     → (if p then Some TestedOut else (if q then Some EquivalentAu else (if r then Some EquivalentOutsideActivity else (if s then Some Administrative else None)))) ≡ Some a → text ≡ reason_text a
-reason_at text true q r s a x y z u e = same_word text _ x ∙ ap reason_text (let same : TestedOut ≡ a = cc e in same)
-reason_at text false true r s a x y z u e = same_word text _ y ∙ ap reason_text (let same : EquivalentAu ≡ a = cc e in same)
-reason_at text false false true s a x y z u e = same_word text _ z ∙ ap reason_text (let same : EquivalentOutsideActivity ≡ a = cc e in same)
-reason_at text false false false true a x y z u e = same_word text _ u ∙ ap reason_text (let same : Administrative ≡ a = cc e in same)
+reason_at text true q r s a x y z u e = same_bytes text _ x ∙ ap reason_text (let same : TestedOut ≡ a = cc e in same)
+reason_at text false true r s a x y z u e = same_bytes text _ y ∙ ap reason_text (let same : EquivalentAu ≡ a = cc e in same)
+reason_at text false false true s a x y z u e = same_bytes text _ z ∙ ap reason_text (let same : EquivalentOutsideActivity ≡ a = cc e in same)
+reason_at text false false false true a x y z u e = same_bytes text _ u ∙ ap reason_text (let same : Administrative ≡ a = cc e in same)
 reason_at text false false false false a x y z u e = absurd (cc e)
 
 reason_own : (text : List ℕ) (a : Reason) → reason_of text ≡ Some a → text ≡ reason_text a
@@ -113,14 +110,14 @@ abbrev word_value : {A : Type 0} → (A → List ℕ) → A → Value
 word_value spelling a = text_value (spelling a)
 
 unread : {A : Type 0} (spelling : A → List ℕ) → ((a : A) → IsUtf8 (spelling a)) → (front old new own : List ℕ) (e : Stop) → ReadsField front text_value old (Err e) new → ReadsField front (word_value spelling) old (Err e) own
-unread spelling utf8 front old new own e = unspelled front spelling (λ a. Unit {0}) (IsKept (word_value spelling)) old new own e (λ a is. (tt, utf8 a))
+unread spelling utf8 front old new own e = unspelled front spelling (λ a. Unit {0}) (IsKeptValue (word_value spelling)) old new own e (λ a is. (tt, utf8 a))
 
 read : {A : Type 0} (spelling : A → List ℕ) (of : List ℕ → Option A) → ((a : A) → IsUtf8 (spelling a)) → ((a : A) → of (spelling a) ≡ Some a) → ((text : List ℕ) (a : A) → of text ≡ Some a → text ≡ spelling a)
     → (front old new text given : List ℕ) (found : Option A) (r : Result A Stop) → given ≡ text → ReadsField front text_value old (Ok text) new → found ≡ of given → r ≡ ok_or found Bad
     → ReadsField front (word_value spelling) old r new
 read spelling of utf8 back own front old new text given found r lent reads is made =
     subst (λ z. ReadsField front (word_value spelling) old z new) (sym made)
-    (spelled front spelling (λ a. Unit {0}) (IsKept (word_value spelling)) old new text given (ok_or found Bad) (λ a is utf8. (utf8, tt)) (λ a is. (tt, utf8 a)) lent reads
+    (spelled front spelling (λ a. Unit {0}) (IsKeptValue (word_value spelling)) old new text given (ok_or found Bad) (λ a is utf8. (utf8, tt)) (λ a is. (tt, utf8 a)) lent reads
     (word_spelled spelling of given found back (own given) is))
 
 pub mode_unread : (front old new own : List ℕ) (e : Stop) → ReadsField front text_value old (Err e) new → ReadsField front mode_value old (Err e) own

@@ -5,7 +5,7 @@ use Rattle.std.specs.Str.{bytes_eq}
 use Rattle.std.proofs.lemmas.Bool.{false≢true}
 use Rattle.std.proofs.lemmas.Slice.Eq.{bytes_eq-Decides}
 use Rattle.lrs_fields.specs.LrsDecimalNumbers.{Ends}
-use Rattle.lrs_fields.specs.Reading.{IsKept, IsMissing, MayFollowOptional, Reads, ReadsField, ReadsOptional, field_text, optional_text}
+use Rattle.lrs_fields.specs.Reading.{IsKeptValue, IsMissing, MayFollowOptional, Reads, ReadsField, ReadsOptional, field_text, optional_text}
 use Rattle.lrs_fields.specs.Values.{HoldsValue, IsLawfulValue, Value, members_for, optional_field, value_json}
 use Rattle.lrs_fields.proofs.Differing.{differ_at}
 use Rattle.lrs_fields.proofs.Sequences.{both_stand, both_text, made, mapped, paired, two}
@@ -79,7 +79,7 @@ alone later name json = append-nil (member_text later name json) ∙ member_part
 -- the last field
 pub last : {A : Type 0} (later : Bool) (name : List ℕ) (value : A → Value) (old new : List ℕ) (r : Result A Stop) → ReadsField (name_text later name) value old r new → ReadsFields later (λ a. (name, value a) ∷ []) old r new
 last later name value old new r reads =
-    seen (field_text (name_text later name) value) (λ a. fields_text later ((name, value a) ∷ [])) (IsKept value) (λ a. AreKept ((name, value a) ∷ [])) Ends IsClosed old new r
+    seen (field_text (name_text later name) value) (λ a. fields_text later ((name, value a) ∷ [])) (IsKeptValue value) (λ a. AreKept ((name, value a) ∷ [])) Ends IsClosed old new r
     (λ a is. ((is.1, tt), (is.0, tt))) (λ a is. (is.1.0, is.0.0)) (λ a. alone later name (value_json (value a))) closed_ends reads
 
 -- a field before others
@@ -87,19 +87,19 @@ pub next : {A B : Type 0} (later : Bool) (name : List ℕ) (value : A → Value)
     → ReadsField (name_text later name) value old r mid → OnOk r (ReadsFields true fields mid s new) → ReadsFields later (λ p. (name, value p.0) ∷ fields p.1) old (paired r s) new
 next later name value fields old mid new r s first second =
     seen (both_text (field_text (name_text later name) value) (λ b. fields_text true (fields b))) (λ p. fields_text later ((name, value p.0) ∷ fields p.1))
-    (both_stand (IsKept value) (λ b. AreKept (fields b))) (λ p. AreKept ((name, value p.0) ∷ fields p.1)) IsClosed IsClosed old new (paired r s)
+    (both_stand (IsKeptValue value) (λ b. AreKept (fields b))) (λ p. AreKept ((name, value p.0) ∷ fields p.1)) IsClosed IsClosed old new (paired r s)
     (λ p is. ((is.0.1, is.1.0), (is.0.0, is.1.1))) (λ p is. ((is.1.0, is.0.0), (is.0.1, is.1.1)))
     (λ p. ap (λ t. t ++ fields_text true (fields p.1)) (member_parts later name (value_json (value p.0)))) (λ rest f. f)
-    (two (field_text (name_text later name) value) (λ b. fields_text true (fields b)) (IsKept value) (λ b. AreKept (fields b)) Ends IsClosed old mid new r s first second
+    (two (field_text (name_text later name) value) (λ b. fields_text true (fields b)) (IsKeptValue value) (λ b. AreKept (fields b)) Ends IsClosed old mid new r s first second
     (λ b rest is f. later_ends (members_for (fields b)) rest f))
 
 -- ---- a field that may be missing
 
-optional_kept : {A : Type 0} (name : List ℕ) (value : A → Value) (fields : Fields) (o : Option A) → IfSome o (IsKept value) × AreKept fields → AreKept (optional_field name value o ++ fields)
+optional_kept : {A : Type 0} (name : List ℕ) (value : A → Value) (fields : Fields) (o : Option A) → IfSome o (IsKeptValue value) × AreKept fields → AreKept (optional_field name value o ++ fields)
 optional_kept name value fields None is = is.1
 optional_kept name value fields (Some a) is = ((is.0.1, is.1.0), (is.0.0, is.1.1))
 
-kept_optional : {A : Type 0} (name : List ℕ) (value : A → Value) (fields : Fields) (o : Option A) → AreKept (optional_field name value o ++ fields) → IfSome o (IsKept value) × AreKept fields
+kept_optional : {A : Type 0} (name : List ℕ) (value : A → Value) (fields : Fields) (o : Option A) → AreKept (optional_field name value o ++ fields) → IfSome o (IsKeptValue value) × AreKept fields
 kept_optional name value fields None is = (tt, is)
 kept_optional name value fields (Some a) is = ((is.1.0, is.0.0), (is.0.1, is.1.1))
 
@@ -114,17 +114,17 @@ pub maybe : {A B : Type 0} (name : List ℕ) (value : A → Value) (fields : B �
     → ReadsFields true (λ p. optional_field name value p.0 ++ fields p.1) old (paired r s) new
 maybe name value fields old mid new r s apart first second =
     seen (both_text (optional_text (name_text true name) value) (λ b. fields_text true (fields b))) (λ p. fields_text true (optional_field name value p.0 ++ fields p.1))
-    (both_stand (λ o. IfSome o (IsKept value)) (λ b. AreKept (fields b))) (λ p. AreKept (optional_field name value p.0 ++ fields p.1)) IsClosed IsClosed old new (paired r s)
+    (both_stand (λ o. IfSome o (IsKeptValue value)) (λ b. AreKept (fields b))) (λ p. AreKept (optional_field name value p.0 ++ fields p.1)) IsClosed IsClosed old new (paired r s)
     (λ p is. optional_kept name value (fields p.1) p.0 is) (λ p is. kept_optional name value (fields p.1) p.0 is)
     (λ p. optional_parts name value (fields p.1) p.0) (λ rest f. f)
-    (two (optional_text (name_text true name) value) (λ b. fields_text true (fields b)) (λ o. IfSome o (IsKept value)) (λ b. AreKept (fields b)) (MayFollowOptional (name_text true name)) IsClosed
+    (two (optional_text (name_text true name) value) (λ b. fields_text true (fields b)) (λ o. IfSome o (IsKeptValue value)) (λ b. AreKept (fields b)) (MayFollowOptional (name_text true name)) IsClosed
     old mid new r s first second (λ b rest is f. (later_ends (members_for (fields b)) rest f, apart b rest f)))
 
-last_kept : {A : Type 0} (name : List ℕ) (value : A → Value) (o : Option A) → IfSome o (IsKept value) → AreKept (optional_field name value o)
+last_kept : {A : Type 0} (name : List ℕ) (value : A → Value) (o : Option A) → IfSome o (IsKeptValue value) → AreKept (optional_field name value o)
 last_kept name value None is = (tt, tt)
 last_kept name value (Some a) is = ((is.1, tt), (is.0, tt))
 
-kept_last : {A : Type 0} (name : List ℕ) (value : A → Value) (o : Option A) → AreKept (optional_field name value o) → IfSome o (IsKept value)
+kept_last : {A : Type 0} (name : List ℕ) (value : A → Value) (o : Option A) → AreKept (optional_field name value o) → IfSome o (IsKeptValue value)
 kept_last name value None is = tt
 kept_last name value (Some a) is = (is.1.0, is.0.0)
 
@@ -135,7 +135,7 @@ last_parts name value (Some a) = alone true name (value_json (value a))
 -- the last field
 pub maybe_last : {A : Type 0} (name : List ℕ) (value : A → Value) (old new : List ℕ) (r : Result (Option A) Stop) → ReadsOptional (name_text true name) value old r new → ReadsFields true (optional_field name value) old r new
 maybe_last name value old new r reads =
-    seen (optional_text (name_text true name) value) (λ o. fields_text true (optional_field name value o)) (λ o. IfSome o (IsKept value)) (λ o. AreKept (optional_field name value o))
+    seen (optional_text (name_text true name) value) (λ o. fields_text true (optional_field name value o)) (λ o. IfSome o (IsKeptValue value)) (λ o. AreKept (optional_field name value o))
     (MayFollowOptional (name_text true name)) IsClosed old new r (last_kept name value) (kept_last name value) (last_parts name value) (closed_behind name) reads
 
 -- ---- the write

@@ -6,7 +6,7 @@ use Rattle.cmi5_course.specs.declared.reason.Reason.{Reason}
 use Rattle.lrs_agents.specs.declared.agents.Agent.{Agent}
 use Rattle.lrs_agents.specs.declared.identifiers.Ifi.{Ifi}
 use Rattle.lrs_fields.proofs.Apart.{are_apart}
-use Rattle.lrs_fields.proofs.Words.{are_small}
+use Rattle.lrs_json.proofs.SmallBytes.{are_small}
 use Rattle.lrs_json.specs.declared.tree.Tree.{Tree}
 use Rattle.lrs_record.specs.Entries.{IsLawfulWrite}
 use Rattle.lrs_record.specs.Writes.{write_fields, write_name}

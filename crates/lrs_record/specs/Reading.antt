@@ -2,7 +2,7 @@
 use Rattle.std.specs.Prelude.{◌≡◌, ℕ, List, [], ◌∷◌, ◌++◌, Bool, true, false, codes, IfSome, Result}
 use Rattle.std.specs.Fmt.{decimal}
 use Rattle.lrs_fields.specs.Digits.{draw_text}
-use Rattle.lrs_fields.specs.Reading.{IsKept, Reads, field_text, optional_text}
+use Rattle.lrs_fields.specs.Reading.{IsKeptValue, Reads, field_text, optional_text}
 use Rattle.lrs_fields.specs.Values.{agent_value, id_value, iri_value, members_for, text_value}
 use Rattle.lrs_json.specs.Json.{Json, number, string}
 use Rattle.lrs_json.specs.Texts.{member_text}
@@ -66,8 +66,8 @@ key_text key =
     ++ field_text (codes ",\"state\":") text_value key.state))
 
 abbrev pub IsKeptKey : StateKey → Type 0
-IsKeptKey key = IsKept iri_value key.activity × IsKept agent_value key.agent
-    × IfSome key.registration (IsKept id_value) × IsKept text_value key.state
+IsKeptKey key = IsKeptValue iri_value key.activity × IsKeptValue agent_value key.agent
+    × IfSome key.registration (IsKeptValue id_value) × IsKeptValue text_value key.state
 
 -- ---- the command
 

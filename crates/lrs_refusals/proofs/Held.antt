@@ -1,5 +1,5 @@
 -- A statement is told why it doesn't go beside the one that is held under its id; a new one what is told of a new one.
-use Rattle.std.proofs.Common.{◌≡◌, ℕ, List, Bool, true, false, Option, Some, None, refl}
+use Rattle.std.proofs.Common.{◌≡◌, ℕ, List, true, false, Option, Some, None, refl}
 use Rattle.std.specs.Prelude.{is_some, unwrap_or}
 use Rattle.lrs_made.specs.LrsHistoryRefusals.{refused_over, refused_under}
 use Rattle.lrs_json.specs.Json.{Json}

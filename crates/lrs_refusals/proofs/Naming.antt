@@ -3,10 +3,10 @@ use Rattle.std.proofs.Common.{◌≡◌, zero, suc, ℕ, ◌+◌, ◌≤◌, Lis
 use Rattle.std.specs.Prelude.{slice_get}
 use Rattle.std.proofs.lemmas.List.{at_drop_all}
 use Rattle.std.proofs.lemmas.Option.{get_or_from_slice_get, none-some, same_Some, slice_get_within}
-use Rattle.lrs_ids.proofs.Turns.{turn}
 use Rattle.lrs_refusals.specs.Naming.{with_these_ids}
 use Rattle.lrs_json.specs.View.{view}
 use Rattle.lrs_json.specs.declared.tree.Tree.{Tree}
+use Rattle.lrs_json.proofs.Lists.{drop_item}
 use Rattle.lrs_record.specs.Entries.{AreLawfulTrees, IsLawfulTree}
 use Rattle.xapi_index.specs.Batches.{id_for, with_ids, ids_under, supply_behind}
 use Rattle.lrs_ids.specs.Ids.{Supply}
@@ -23,8 +23,8 @@ with_ids_again supply (t ∷ ts) =
 pub next_with_id : (ids : List (List ℕ)) (ts : List Tree) (at : ℕ) (id : List ℕ) (t : Tree) → slice_get ids at ≡ Some id → slice_get ts at ≡ Some t
     → with_these_ids (drop at ids) (drop at ts) ≡ record { id = id; tree = t } ∷ with_these_ids (drop (at + 1) ids) (drop (at + 1) ts)
 next_with_id ids ts at id t first second =
-    ap (λ is. with_these_ids is (drop at ts)) (turn ids at id (slice_get_within ids at id first) (sym (get_or_from_slice_get ids at id id first)))
-    ∙ ap (λ rest. with_these_ids (id ∷ drop (at + 1) ids) rest) (turn ts at t (slice_get_within ts at t second) (sym (get_or_from_slice_get ts at t t second)))
+    ap (λ is. with_these_ids is (drop at ts)) (drop_item ids at id (slice_get_within ids at id first) (sym (get_or_from_slice_get ids at id id first)))
+    ∙ ap (λ rest. with_these_ids (id ∷ drop (at + 1) ids) rest) (drop_item ts at t (slice_get_within ts at t second) (sym (get_or_from_slice_get ts at t t second)))
 
 none_of : (ids : List (List ℕ)) → with_these_ids ids [] ≡ []
 none_of [] = refl

@@ -15,7 +15,7 @@ use crate::Known;
 use crate::courses::{course_conflict, refused_course};
 use crate::forms::{refused_batch, refused_form};
 use crate::meeting::{refused_put, refused_together};
-use crate::whose::bad_role;
+use crate::whose::barred_document;
 use crate::written::PreparedTexts;
 use lrs_command::Who;
 use lrs_json::{Memory, Text};
@@ -79,7 +79,7 @@ fn refusal_of(
     if let Some(refusal) = form_refusal(alloc, written, write)? {
         return Ok(Some(refusal));
     }
-    if let Some(refusal) = bad_role(parts, who, write) {
+    if let Some(refusal) = barred_document(parts, who, write) {
         return Ok(Some(refusal));
     }
     if let Some(refusal) = missing(parts, write) {

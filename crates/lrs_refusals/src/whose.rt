@@ -1,7 +1,7 @@
 // Who a caller is, which launch a session has, and what a caller does with documents.
 ghost use Rattle.std.specs.Prelude.{◌≡◌, None};
 ghost use Rattle.std.specs.Option.{option_copied};
-ghost use Rattle.lrs_made.specs.LrsHistoryRefusals.{bad_role};
+ghost use Rattle.lrs_made.specs.LrsHistoryRefusals.{barred_document};
 ghost use Rattle.lrs_made.specs.LrsHistoryWhose.{known_as, launch_of, who_is, who_presents};
 ghost use Rattle.lrs_made.specs.LrsStateLaunches.{launch_of_token};
 ghost use Rattle.lrs_made.specs.LrsPartsParts.{state_of};
@@ -86,8 +86,8 @@ pub(crate) fn was_abandoned(parts: &Parts, who: Who) -> bool
 }
 
 /// Why a caller doesn't do that to documents.
-pub(crate) fn bad_role(parts: &Parts, who: Who, write: &Write) -> Option<Refusal>
-    ensures { result ≡ bad_role (state_of parts.now) who write.now }
+pub(crate) fn barred_document(parts: &Parts, who: Who, write: &Write) -> Option<Refusal>
+    ensures { result ≡ barred_document (state_of parts.now) who write.now }
 {
     let launch = launch_of(parts, who);
     match write {

@@ -2,11 +2,13 @@
 use Rattle.std.proofs.Common.{◌≡◌, ℕ, Bool, true, false, List, [], Option, Some, None, Result, Ok, Err, refl, sym, ap, ◌∙◌, inl, inr, arith}
 use Rattle.std.specs.Prelude.{◌==◌, MatchBool, MatchOption}
 use Rattle.std.proofs.lemmas.Bool.Decides.{nat_tests}
+use Rattle.std.proofs.lemmas.Option.{none-some, same_Some}
 use Rattle.lrs_http.specs.declared.request.Request.{Request}
 use Rattle.lrs_bodies.specs.Bodies.{BodyBreaks}
-use Rattle.lrs_bodies.proofs.OneBody.{body_once, body_value_once}
+use Rattle.lrs_bodies.proofs.OneBody.{body_once, body_value_once, both}
 use Rattle.lrs_command.specs.declared.command.Command.{Command}
 use Rattle.lrs_command.specs.declared.command.Command.TheVariants as command
+use Rattle.lrs_command.specs.declared.command.TheConstants.{BAD_REQUEST}
 use Rattle.lrs_record.specs.declared.entry.Area.{Area}
 use Rattle.lrs_rules.specs.declared.rule.Rule.{Rule}
 use Rattle.lrs_rules.specs.declared.rule.Rule.TheVariants as rule
@@ -32,18 +34,12 @@ use Rattle.lrs_routes.proofs.OneWanted.{decoded_least, wanted_once}
 abbrev Broken : Type 0
 Broken = Option Rule
 
-none_some : {X : Type 0} (x : X) → None ≡ Some x → ⊥
-none_some x e = cc e
-
-both : (a b c : Broken) → a ≡ c → b ≡ c → a ≡ b
-both a b c p q = p ∙ sym q
-
 -- ---- the parameters tell one rule, where what follows does
 
 -- where there are none, no rule is broken, and else the second
 none_at : (pairs : List Pair) (n : ℕ) (two : Bool) → (n == 2) ≡ two → MatchBool two (¬ (pairs ≡ [])) ((pairs ≡ []) × (Some n ≡ None)) → (¬ (pairs ≡ [])) × (n ≡ 2)
 none_at pairs n true is h = (h, grind (arith, nat_tests, is))
-none_at pairs n false is h = absurd (none_some n (sym h.1))
+none_at pairs n false is h = absurd (none-some n (sym h.1))
 
 none_once : (pairs : List Pair) (a b : Option ℕ) → LeastOfNone a pairs → LeastOfNone b pairs → a ≡ b
 none_once pairs None None h k = refl
@@ -64,8 +60,8 @@ least_once parameters_of_drop pairs m n h k = drop_once pairs m n h k
 module _ (form : ParameterForm) (pairs : List Pair) (next : Broken → Type 0) where
   obeyed_once : (a b : Broken) (m n : Option ℕ) → m ≡ n → (next a → next b → a ≡ b) → MatchOption m (next a) (λ i. a ≡ Some (rule.P i)) → MatchOption n (next b) (λ i. b ≡ Some (rule.P i)) → a ≡ b
   obeyed_once a b None None e once h k = once h k
-  obeyed_once a b None (Some n) e once h k = absurd (none_some n e)
-  obeyed_once a b (Some m) None e once h k = absurd (none_some m (sym e))
+  obeyed_once a b None (Some n) e once h k = absurd (none-some n e)
+  obeyed_once a b (Some m) None e once h k = absurd (none-some m (sym e))
   obeyed_once a b (Some m) (Some n) e once h k = let same : m ≡ n = cc e in h ∙ ap (λ (i : ℕ). Some (rule.P i)) same ∙ sym k
 
   decoded_once : (a b : Broken) → (next a → next b → a ≡ b) → Decoded form pairs a (next a) → Decoded form pairs b (next b) → a ≡ b
@@ -92,9 +88,6 @@ first_once o request a b h k =
     parameters_once (form_of o).parameters (parameters_of request.query) (λ x. BodyBreaks (form_of o).body request x) a b
     (λ s t. body_once one_json (form_of o).body request a b s t) h k
 
-some_same : {A : Type 0} (a b : A) → Some a ≡ Some b → a ≡ b
-some_same a b e = cc e
-
 -- parameters that break no rule give one value
 parameter_value_once : (form : ParameterForm) (pairs : List Pair) (next : Type 0) (a b : ParameterValue) → ParametersBreak form pairs None next → IsParameterValue form pairs a → IsParameterValue form pairs b → a ≡ b
 parameter_value_once any_parameters pairs next a b unbroken h k = h ∙ sym k
@@ -102,7 +95,7 @@ parameter_value_once no_parameters pairs next a b unbroken h k = h ∙ sym k
 parameter_value_once parameters_of_get pairs next a b unbroken h k =
     h.2 ∙ ap parameter.Wanted (wanted_once pairs (decoded_least pairs next unbroken) h.0 k.0 h.1 k.1) ∙ sym k.2
 parameter_value_once parameters_of_link pairs next a b unbroken h k = h.2 ∙ ap parameter.Link (links_alone pairs h.0 k.0 h.1 k.1) ∙ sym k.2
-parameter_value_once parameters_of_put pairs next a b unbroken h k = h.2 ∙ ap parameter.Id (some_same h.0 k.0 (sym h.1 ∙ k.1)) ∙ sym k.2
+parameter_value_once parameters_of_put pairs next a b unbroken h k = h.2 ∙ ap parameter.Id (same_Some h.0 k.0 (sym h.1 ∙ k.1)) ∙ sym k.2
 parameter_value_once parameters_of_document pairs next a b unbroken h k = h.2 ∙ ap parameter.Document (one_key pairs h.0 k.0 h.1 k.1) ∙ sym k.2
 parameter_value_once parameters_of_documents pairs next a b unbroken h k = h.2 ∙ ap parameter.Documents (one_wanted pairs h.0 k.0 h.1 k.1) ∙ sym k.2
 parameter_value_once parameters_of_drop pairs next a b unbroken h k = h.2 ∙ ap parameter.Dropped (one_dropped pairs h.0 k.0 h.1 k.1) ∙ sym k.2
@@ -114,7 +107,7 @@ means_once o request p c d unbroken h k =
     let queries : h.0 ≡ k.0 = parameter_value_once (form_of o).parameters pairs (BodyBreaks (form_of o).body request None) h.0 k.0 unbroken h.2 k.2 in
     let bodies : h.1 ≡ k.1 = body_value_once one_json (form_of o).body request h.1 k.1 h.3 k.3 in
     let commands : command_of o h.0 p h.1 ≡ command_of o k.0 p k.1 = λ i. command_of o (queries i) p (bodies i) in
-    some_same c d (sym h.4 ∙ commands ∙ k.4)
+    same_Some c d (sym h.4 ∙ commands ∙ k.4)
 
 unbroken_once : (area : Area) (o : Operation) (request : Request) (c d : Command) (p : Option PartValue) → FirstBroken o request None
     → MatchOption p (c ≡ nowhere area) (λ there. Means o request there c) → MatchOption p (d ≡ nowhere area) (λ there. Means o request there d) → c ≡ d
@@ -122,11 +115,11 @@ unbroken_once area o request c d None first h k = h ∙ sym k
 unbroken_once area o request c d (Some p) first h k = means_once o request p c d first h k
 
 command_at : (area : Area) (o : Operation) (request : Request) (c d : Command) (a b : Broken) → a ≡ b → FirstBroken o request a
-    → MatchOption a (IsUnbroken area o request c) (λ r. c ≡ command.Refused area 400 r) → MatchOption b (IsUnbroken area o request d) (λ r. d ≡ command.Refused area 400 r) → c ≡ d
+    → MatchOption a (IsUnbroken area o request c) (λ r. c ≡ command.Refused area BAD_REQUEST r) → MatchOption b (IsUnbroken area o request d) (λ r. d ≡ command.Refused area BAD_REQUEST r) → c ≡ d
 command_at area o request c d None None e first h k = unbroken_once area o request c d (part_of (form_of o).part request.path) first h k
-command_at area o request c d None (Some r) e first h k = absurd (none_some r e)
-command_at area o request c d (Some r) None e first h k = absurd (none_some r (sym e))
-command_at area o request c d (Some r) (Some s) e first h k = let same : r ≡ s = cc e in h ∙ ap (λ (x : Rule). command.Refused area 400 x) same ∙ sym k
+command_at area o request c d None (Some r) e first h k = absurd (none-some r e)
+command_at area o request c d (Some r) None e first h k = absurd (none-some r (sym e))
+command_at area o request c d (Some r) (Some s) e first h k = let same : r ≡ s = cc e in h ∙ ap (λ (x : Rule). command.Refused area BAD_REQUEST x) same ∙ sym k
 
 command_once : (area : Area) (o : Operation) (request : Request) (c d : Command) → IsCommand area o request c → IsCommand area o request d → c ≡ d
 command_once area o request c d h k = command_at area o request c d h.0 k.0 (first_once o request h.0 k.0 h.1 k.1) h.1 h.2 k.2

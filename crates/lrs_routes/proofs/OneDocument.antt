@@ -1,5 +1,6 @@
 -- The parameters of a request for documents ask for one thing.
 use Rattle.std.proofs.Common.{◌≡◌, ℕ, List, Option, Some, None, MatchOption, codes, sym, ap, ◌∙◌}
+use Rattle.std.proofs.lemmas.Option.{same_Some}
 use Rattle.lrs_agents.specs.declared.identifiers.Ifi.{Ifi}
 use Rattle.xapi_keys.specs.declared.state_key.StateKey.{StateKey}
 use Rattle.xapi_keys.specs.declared.wanted.WantedDocuments.{WantedDocuments}
@@ -11,16 +12,13 @@ use Rattle.xapi_parameters.specs.declared.dropped.DroppedDocuments.{DroppedDocum
 use Rattle.xapi_parameters.specs.declared.pair.Pair.{Pair}
 use Rattle.xapi_parameters.proofs.LinkAlone.{one_actor}
 
-some_text : (a b : List ℕ) → Some a ≡ Some b → a ≡ b
-some_text a b e = cc e
-
 one_agent : (text : Option (List ℕ)) (a b : Ifi) → MatchOption text ⊥ (λ t. IsActorOf t a) → MatchOption text ⊥ (λ t. IsActorOf t b) → a ≡ b
 one_agent None a b x y = absurd x
 one_agent (Some t) a b x y = one_actor t a b x y
 
 module _ (pairs : List Pair) (activity other : List ℕ) (agent another : Ifi) (registration second : Option (List ℕ)) (x : AreOwners pairs activity agent registration) (y : AreOwners pairs other another second) where
   one_activity : activity ≡ other
-  one_activity = some_text activity other (sym x.activity_is ∙ y.activity_is)
+  one_activity = same_Some activity other (sym x.activity_is ∙ y.activity_is)
 
   one_owner : agent ≡ another
   one_owner = one_agent (given (codes "agent") pairs) agent another x.agent_is y.agent_is
@@ -33,7 +31,7 @@ one_key pairs a b x y =
     let activity = one_activity pairs a.activity b.activity a.agent b.agent a.registration b.registration x.owners y.owners in
     let agent = one_owner pairs a.activity b.activity a.agent b.agent a.registration b.registration x.owners y.owners in
     let registration = one_registration pairs a.activity b.activity a.agent b.agent a.registration b.registration x.owners y.owners in
-    let state : a.state ≡ b.state = some_text a.state b.state (sym x.state_is ∙ y.state_is) in
+    let state : a.state ≡ b.state = same_Some a.state b.state (sym x.state_is ∙ y.state_is) in
     λ i. record { activity = activity i; agent = agent i; registration = registration i; state = state i }
 
 pub one_dropped : (pairs : List Pair) (a b : DroppedDocuments) → AreDropped pairs a → AreDropped pairs b → a ≡ b

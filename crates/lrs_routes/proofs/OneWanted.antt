@@ -1,6 +1,7 @@
 -- Parameters that break no rule ask for one thing.
 use Rattle.std.proofs.Common.{◌≡◌, ℕ, Bool, true, false, List, Option, Some, None, refl, sym, ap, ◌∙◌, inl, inr}
 use Rattle.std.specs.Prelude.{◌&&◌, ◌||◌, not, is_some, option_and_then, codes, MatchOption}
+use Rattle.std.proofs.lemmas.Option.{same_Some}
 use Rattle.lrs_names.specs.Ids.{id_of}
 use Rattle.lrs_rules.specs.declared.rule.Rule.{Rule}
 use Rattle.xapi_parameters.specs.Parameters.{LeastOfGet, are_among, given, has, number_under, one_names}
@@ -33,9 +34,6 @@ never_both pairs least a b h k =
     (id_given (given (codes "statementId") pairs) a h) (id_given (given (codes "voidedStatementId") pairs) b k)
     least.1.1.1.1.1.1.1.1.1.1.0
 
-some_same : (a b : List ℕ) → Some a ≡ Some b → a ≡ b
-some_same a b e = cc e
-
 none_first : (one voided : Bool) → one ≡ true → (one || voided) ≡ false → ⊥
 none_first true voided h e = cc e
 none_first false voided h e = cc h
@@ -53,7 +51,7 @@ voided_not_many : (pairs : List Pair) (id : List ℕ) → id_under (codes "voide
     → (has (codes "statementId") pairs || has (codes "voidedStatementId") pairs) ≡ false → ⊥
 voided_not_many pairs id h none = none_second (has (codes "statementId") pairs) (has (codes "voidedStatementId") pairs) (id_given (given (codes "voidedStatementId") pairs) id h) none
 
--- the link with this query, at the places that are given
+-- the link with this query, at the positions that are given
 abbrev link_of : List Pair → Query → MoreLink
 link_of pairs query = record { query = query; asof = number_under (codes "asof") pairs; after = number_under (codes "after") pairs }
 
@@ -65,14 +63,14 @@ parameters_once pairs a b h k =
 
 pub wanted_once : (pairs : List Pair) → LeastOfGet None pairs → (a b : Wanted) → IsWanted pairs a → IsWanted pairs b → a ≡ b
 wanted_once pairs least (One a f) (One b g) h k =
-    let ids : a ≡ b = some_same a b (sym h.0 ∙ k.0) in
+    let ids : a ≡ b = same_Some a b (sym h.0 ∙ k.0) in
     let formats : f ≡ g = h.1 ∙ sym k.1 in
     λ i. One (ids i) (formats i)
 wanted_once pairs least (One a f) (Voided b g) h k = absurd (never_both pairs least a b h.0 k.0)
 wanted_once pairs least (One a f) (Many q) h k = absurd (one_not_many pairs a h.0 k.0)
 wanted_once pairs least (Voided a f) (One b g) h k = absurd (never_both pairs least b a k.0 h.0)
 wanted_once pairs least (Voided a f) (Voided b g) h k =
-    let ids : a ≡ b = some_same a b (sym h.0 ∙ k.0) in
+    let ids : a ≡ b = same_Some a b (sym h.0 ∙ k.0) in
     let formats : f ≡ g = h.1 ∙ sym k.1 in
     λ i. Voided (ids i) (formats i)
 wanted_once pairs least (Voided a f) (Many q) h k = absurd (voided_not_many pairs a h.0 k.0)

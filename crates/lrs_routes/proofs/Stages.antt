@@ -4,7 +4,7 @@ use Rattle.std.specs.Prelude.{MatchBool, MatchOption, Result, Ok, Err}
 use Rattle.lrs_rules.specs.declared.rule.Rule.{Rule}
 use Rattle.lrs_rules.specs.declared.rule.Rule.TheVariants as rule
 use Rattle.xapi_parameters.specs.declared.pair.Pair.{Pair}
-use Rattle.lrs_bodies.specs.Looks.{Finds}
+use Rattle.lrs_bodies.specs.Looks.{FindsForm}
 use Rattle.lrs_bodies.specs.declared.form_refused.FormRefused.{FormRefused}
 use Rattle.lrs_bodies.specs.declared.form_refused.FormRefused.TheVariants as form_refused
 use Rattle.lrs_routes.specs.Forms.{Decoded, LeastOf, Obeyed, ParametersBreak, looks_at}
@@ -59,12 +59,12 @@ module _ (form : ParameterForm) (pairs : List Pair) (next : Type 0) where
 
 -- a refusal is found whatever the value was to be
 pub finds_refused : {S T : Type 0} (f g : Option Rule → Type 0) (P : S → Type 0) (Q : T → Type 0) (e : FormRefused) → ((rule : Rule) → f (Some rule) → g (Some rule))
-    → Finds f P (Err e) → Finds g Q (Err e)
+    → FindsForm f P (Err e) → FindsForm g Q (Err e)
 finds_refused f g P Q (form_refused.Broken rule) more h = (more rule h.0, h.1)
 finds_refused f g P Q form_refused.Memory more h = tt
 
 -- the same, where the refusal is handed on
 pub finds_handed : {S T : Type 0} (f g : Option Rule → Type 0) (P : S → Type 0) (Q : T → Type 0) (e : FormRefused) (r : Result T FormRefused) → IsErrAnd r (λ own. own ≡ e)
-    → ((rule : Rule) → f (Some rule) → g (Some rule)) → Finds f P (Err e) → Finds g Q r
+    → ((rule : Rule) → f (Some rule) → g (Some rule)) → FindsForm f P (Err e) → FindsForm g Q r
 finds_handed f g P Q e (Ok value) is more h = absurd is
-finds_handed {S} {T} f g P Q e (Err own) is more h = subst (λ (x : FormRefused). Finds g Q (Err x)) (sym is) (finds_refused f g P Q e more h)
+finds_handed {S} {T} f g P Q e (Err own) is more h = subst (λ (x : FormRefused). FindsForm g Q (Err x)) (sym is) (finds_refused f g P Q e more h)

@@ -7,6 +7,7 @@ use Rattle.lrs_bodies.specs.declared.body_value.BodyValue.{BodyValue}
 use Rattle.lrs_record.specs.declared.entry.Area.{Area}
 use Rattle.lrs_command.specs.declared.command.Command.{Command}
 use Rattle.lrs_command.specs.declared.command.Command.TheVariants.{Refused}
+use Rattle.lrs_command.specs.declared.command.TheConstants.{BAD_REQUEST, NOT_FOUND}
 use Rattle.lrs_rules.specs.declared.rule.Rule.{Rule}
 use Rattle.lrs_rules.specs.declared.rule.Rule.TheVariants as rule
 use Rattle.xapi_parameters.specs.Documents.{LeastOfDocument, LeastOfDocuments, LeastOfDrop}
@@ -82,7 +83,7 @@ Means operation request part command =
 -- The refusal of a path in which a part is no id: nothing is there. A refusal by 404 tells its caller no rule; the one
 -- here is that on ids.
 abbrev pub nowhere : Area → Command
-nowhere area = Refused area 404 (rule.P 5)
+nowhere area = Refused area NOT_FOUND (rule.P 5)
 
 -- the command of a request that breaks no rule: what it means, unless the part of its path is no id
 abbrev pub IsUnbroken : Area → Operation → Request → Command → Type 0
@@ -95,4 +96,4 @@ IsUnbroken area operation request command =
 abbrev pub IsCommand : Area → Operation → Request → Command → Type 0
 IsCommand area operation request command =
     (broken : Option Rule) × FirstBroken operation request broken
-    × MatchOption broken (IsUnbroken area operation request command) (λ rule. command ≡ Refused area 400 rule)
+    × MatchOption broken (IsUnbroken area operation request command) (λ rule. command ≡ Refused area BAD_REQUEST rule)

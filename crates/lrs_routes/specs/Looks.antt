@@ -8,6 +8,7 @@ use Rattle.lrs_bodies.specs.declared.form_refused.FormRefused.TheVariants as for
 use Rattle.lrs_command.specs.Commands.{HasReadTrees}
 use Rattle.lrs_command.specs.declared.command.Command.{Command}
 use Rattle.lrs_command.specs.declared.command.Command.TheVariants.{Refused}
+use Rattle.lrs_command.specs.declared.command.TheConstants.{BAD_REQUEST, NOT_FOUND}
 use Rattle.lrs_rules.specs.declared.rule.Rule.{Rule}
 use Rattle.lrs_rules.specs.declared.rule.Rule.TheVariants as rule
 use Rattle.xapi_parameters.specs.declared.pair.Pair.{Pair}
@@ -22,7 +23,7 @@ use Rattle.lrs_routes.specs.declared.values.PartValue.{PartValue}
 
 -- A form is refused with 400, and a path with 404, by such a rule.
 abbrev pub HasFormRule : Command → Type 0
-HasFormRule (Refused area status rule) = ((status ≡ 400) ⊎ (status ≡ 404)) × IsTrue (is_form_rule rule)
+HasFormRule (Refused area status rule) = ((status ≡ BAD_REQUEST) ⊎ (status ≡ NOT_FOUND)) × IsTrue (is_form_rule rule)
 HasFormRule other = Unit {0}
 
 -- ---- the parameters
@@ -50,11 +51,11 @@ pub record IsInParameters (form : ParameterForm) (pairs : List Pair) (value : Pa
   pub kind : OfParameters form value
 
 -- What they are read as by the form's own rules: a value, or the least that they break. Running out of memory is free.
-abbrev pub Reads : ParameterForm → List Pair → Result ParameterValue QueryRefused → Type 0
-Reads form pairs (Ok value) = LeastOf form None pairs × IsInParameters form pairs value
-Reads form pairs (Err (query.BadParameter number)) = LeastOf form (Some number) pairs
-Reads form pairs (Err query.BadLink) = LeastOf form (Some 14) pairs
-Reads form pairs (Err query.Memory) = Unit {0}
+abbrev pub ReadsParameters : ParameterForm → List Pair → Result ParameterValue QueryRefused → Type 0
+ReadsParameters form pairs (Ok value) = LeastOf form None pairs × IsInParameters form pairs value
+ReadsParameters form pairs (Err (query.BadParameter number)) = LeastOf form (Some number) pairs
+ReadsParameters form pairs (Err query.BadLink) = LeastOf form (Some 14) pairs
+ReadsParameters form pairs (Err query.Memory) = Unit {0}
 
 -- ---- the command
 

@@ -3,14 +3,14 @@ ghost use Rattle.std.specs.Prelude.{◌≡◌, IfOk, MatchOption};
 ghost use Rattle.lrs_command.specs.Commands.{HasReadTrees};
 ghost use Rattle.lrs_routes.specs.Forms.{FirstBroken, IsCommand, nowhere};
 ghost use Rattle.lrs_bodies.specs.Bodies.{OfBody};
-ghost use Rattle.lrs_bodies.specs.Looks.{Finds};
+ghost use Rattle.lrs_bodies.specs.Looks.{FindsForm};
 ghost use Rattle.lrs_routes.specs.Operations.{OfParameters, form_of};
 ghost use Rattle.lrs_routes.specs.Looks.{HasFormRule, IsGiven, IsMeantThere};
 
 use crate::operation::Operation;
 use crate::values::ParameterValue;
 use lrs_bodies::{BodyValue, FormRefused};
-use lrs_command::{Area, Command};
+use lrs_command::{Area, BAD_REQUEST, Command, NOT_FOUND};
 use lrs_http::Request;
 use lrs_json::Memory;
 use lrs_rules::Rule;
@@ -32,7 +32,7 @@ pub fn command(
         Ok(found) => Ok(found_or_nowhere(area, found)),
         Err(FormRefused::Broken(rule)) => Ok(Command::Refused {
             area,
-            status: 400,
+            status: BAD_REQUEST,
             rule,
         }),
         Err(FormRefused::Memory) => Err(Memory),
@@ -46,7 +46,7 @@ fn found_or_nowhere(area: Area, found: Option<Command>) -> Command
         Some(command) => command,
         None => Command::Refused {
             area,
-            status: 404,
+            status: NOT_FOUND,
             rule: Rule::P(5),
         },
     }
@@ -58,7 +58,7 @@ fn meaning(
     operation: Operation,
     request: &Request,
 ) -> Result<Option<Command>, FormRefused>
-    ensures { Finds (FirstBroken operation request.now) (IsMeantThere operation request.now) result }
+    ensures { FindsForm (FirstBroken operation request.now) (IsMeantThere operation request.now) result }
 {
     let query = operation.parameter_value(alloc, &request.query)?;
     match operation.body_value(alloc, request) {

@@ -1,8 +1,8 @@
 ghost use Rattle.std.specs.Prelude.{◌≡◌, Some, IfOk};
 ghost use Rattle.lrs_bodies.specs.Bodies.{BodyBreaks, IsInBody, OfBody, course_body, document_body, enrolment_body, launch_body, statement_body, statements_body, sweep_body, waiver_body};
-ghost use Rattle.lrs_bodies.specs.Looks.{Finds};
+ghost use Rattle.lrs_bodies.specs.Looks.{FindsForm};
 ghost use Rattle.lrs_routes.specs.Forms.{looks_at, parameters_of};
-ghost use Rattle.lrs_routes.specs.Looks.{IsInParameters, IsNoRefusal, OnlyParameters, Reads};
+ghost use Rattle.lrs_routes.specs.Looks.{IsInParameters, IsNoRefusal, OnlyParameters, ReadsParameters};
 ghost use Rattle.lrs_routes.specs.Operations.{OfParameters, command_of, dropping, form_of, parameters_of_document, parameters_of_put, written};
 ghost use Rattle.lrs_routes.specs.Parts.{OfPart, part_of};
 ghost use Rattle.lrs_routes.specs.declared.operation.Operation.TheVariants as operation;
@@ -77,7 +77,7 @@ impl Operation {
         alloc: Global,
         query: &Option<Text>,
     ) -> Result<ParameterValue, FormRefused>
-        ensures { Finds (OnlyParameters (form_of self).parameters (parameters_of query.now))
+        ensures { FindsForm (OnlyParameters (form_of self).parameters (parameters_of query.now))
             (IsInParameters (form_of self).parameters (parameters_of query.now)) result }
     {
         if self.looks_at_parameters() {
@@ -102,7 +102,7 @@ impl Operation {
 
     // What parameters that are texts give.
     fn read_parameters(self, alloc: Global, pairs: &[Pair]) -> Result<ParameterValue, QueryRefused>
-        ensures { Reads (form_of self).parameters pairs.now result }
+        ensures { ReadsParameters (form_of self).parameters pairs.now result }
     {
         match self {
             Operation::TellVersions | Operation::GetProfile | Operation::FetchToken => Ok(
@@ -146,7 +146,7 @@ impl Operation {
         alloc: Global,
         request: &Request,
     ) -> Result<BodyValue, FormRefused>
-        ensures { Finds (BodyBreaks (form_of self).body request.now)
+        ensures { FindsForm (BodyBreaks (form_of self).body request.now)
             (IsInBody (form_of self).body request.now) result }
     {
         match self {

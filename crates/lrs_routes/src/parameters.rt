@@ -3,7 +3,7 @@ ghost use Rattle.std.specs.Prelude.{◌≡◌, MatchResult};
 ghost use Rattle.lrs_rules.specs.declared.rule.Rule.TheVariants as rule;
 ghost use Rattle.xapi_parameters.specs.Pairs.{AreTexts, pairs_of};
 ghost use Rattle.lrs_routes.specs.Forms.{parameters_of};
-ghost use Rattle.lrs_routes.specs.Looks.{IfBroken, Reads, refused_of_query};
+ghost use Rattle.lrs_routes.specs.Looks.{IfBroken, ReadsParameters, refused_of_query};
 ghost use Rattle.lrs_routes.specs.Operations.{no_parameters, parameters_of_document, parameters_of_documents, parameters_of_drop, parameters_of_get, parameters_of_link, parameters_of_put};
 
 use crate::values::ParameterValue;
@@ -50,7 +50,7 @@ pub(crate) fn refused_of_query(refused: QueryRefused) -> FormRefused
 
 /// What a GET of statements asks for.
 pub(crate) fn wanted_in(alloc: Global, pairs: &[Pair]) -> Result<ParameterValue, QueryRefused>
-    ensures { Reads parameters_of_get pairs.now result }
+    ensures { ReadsParameters parameters_of_get pairs.now result }
 {
     match read_wanted(alloc, pairs) {
         Ok(wanted) => Ok(ParameterValue::Wanted(wanted)),
@@ -60,7 +60,7 @@ pub(crate) fn wanted_in(alloc: Global, pairs: &[Pair]) -> Result<ParameterValue,
 
 /// The position at which a list goes on.
 pub(crate) fn link_in(alloc: Global, pairs: &[Pair]) -> Result<ParameterValue, QueryRefused>
-    ensures { Reads parameters_of_link pairs.now result }
+    ensures { ReadsParameters parameters_of_link pairs.now result }
 {
     match read_link(alloc, pairs) {
         Ok(link) => Ok(ParameterValue::Link(link)),
@@ -70,7 +70,7 @@ pub(crate) fn link_in(alloc: Global, pairs: &[Pair]) -> Result<ParameterValue, Q
 
 /// The id under which a statement is put.
 pub(crate) fn id_in(pairs: &[Pair]) -> Result<ParameterValue, QueryRefused>
-    ensures { Reads parameters_of_put pairs.now result }
+    ensures { ReadsParameters parameters_of_put pairs.now result }
 {
     match put_id(pairs) {
         Ok(id) => Ok(ParameterValue::Id(id)),
@@ -80,7 +80,7 @@ pub(crate) fn id_in(pairs: &[Pair]) -> Result<ParameterValue, QueryRefused>
 
 /// The key of the document that is written.
 pub(crate) fn key_in(alloc: Global, pairs: &[Pair]) -> Result<ParameterValue, QueryRefused>
-    ensures { Reads parameters_of_document pairs.now result }
+    ensures { ReadsParameters parameters_of_document pairs.now result }
 {
     match read_key(alloc, pairs) {
         Ok(key) => Ok(ParameterValue::Document(key)),
@@ -90,7 +90,7 @@ pub(crate) fn key_in(alloc: Global, pairs: &[Pair]) -> Result<ParameterValue, Qu
 
 /// What a GET of documents asks for.
 pub(crate) fn documents_in(alloc: Global, pairs: &[Pair]) -> Result<ParameterValue, QueryRefused>
-    ensures { Reads parameters_of_documents pairs.now result }
+    ensures { ReadsParameters parameters_of_documents pairs.now result }
 {
     match read_documents(alloc, pairs) {
         Ok(wanted) => Ok(ParameterValue::Documents(wanted)),
@@ -100,7 +100,7 @@ pub(crate) fn documents_in(alloc: Global, pairs: &[Pair]) -> Result<ParameterVal
 
 /// The documents that are dropped.
 pub(crate) fn dropped_in(alloc: Global, pairs: &[Pair]) -> Result<ParameterValue, QueryRefused>
-    ensures { Reads parameters_of_drop pairs.now result }
+    ensures { ReadsParameters parameters_of_drop pairs.now result }
 {
     match read_dropped(alloc, pairs) {
         Ok(dropped) => Ok(ParameterValue::Dropped(dropped)),
@@ -110,7 +110,7 @@ pub(crate) fn dropped_in(alloc: Global, pairs: &[Pair]) -> Result<ParameterValue
 
 /// That there are none.
 pub(crate) fn nothing_in(pairs: &[Pair]) -> Result<ParameterValue, QueryRefused>
-    ensures { Reads no_parameters pairs.now result }
+    ensures { ReadsParameters no_parameters pairs.now result }
 {
     match no_parameters(pairs) {
         Ok(()) => Ok(ParameterValue::Nothing),

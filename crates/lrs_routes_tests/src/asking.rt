@@ -147,7 +147,7 @@ fn show_read(read: &Read, into: &mut String) -> Result<(), Fail> {
         Read::Statements(Wanted::One(id, format)) => show_id(word_of(format), id, into),
         Read::Statements(Wanted::Voided(id, _format)) => show_id("get voided", id, into),
         Read::Statements(Wanted::Many(query)) => show_page(query.page, into),
-        Read::More(link) => show_places(link.asof, link.after, into),
+        Read::More(link) => show_numbers(link.asof, link.after, into),
         Read::Documents(WantedDocuments::One(key)) => show_named("document", &key.state, into),
         Read::Documents(WantedDocuments::Ids { activity, .. }) => show_named(
             "document ids of",
@@ -172,7 +172,7 @@ fn show_page(page: u32, into: &mut String) -> Result<(), Fail> {
     Ok(())
 }
 
-fn show_places(asof: u64, after: u64, into: &mut String) -> Result<(), Fail> {
+fn show_numbers(asof: u64, after: u64, into: &mut String) -> Result<(), Fail> {
     write!(into, "more {asof} {after}")?;
     Ok(())
 }

@@ -1,5 +1,5 @@
 -- A refusal of JSON means the rule that the bytes break.
-use Rattle.std.proofs.Common.{◌≡◌, ◌↔◌, ℕ, List, refl, inl, inr}
+use Rattle.std.proofs.Common.{◌≡◌, ◌↔◌, ℕ, List, inl, inr}
 use Rattle.std.specs.Prelude.{IsTrue, Result, Err, Some}
 use Rattle.lrs_json.specs.declared.limits.TheConstants.{DEPTH}
 use Rattle.lrs_json.specs.declared.tree.Tree.{Tree}

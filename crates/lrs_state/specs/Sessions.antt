@@ -9,6 +9,7 @@ use Rattle.lrs_state.specs.declared.sessions.MadeSession.{MadeSession}
 use Rattle.lrs_state.specs.declared.sessions.SessionsChange.{SessionsChange}
 use Rattle.lrs_register.specs.Changes.{unchanged}
 use Rattle.lrs_register.specs.declared.change.Change.{Change}
+use Rattle.lrs_time.specs.Reading.{is_empty}
 
 -- the session of the launch of that number was abandoned
 abbrev pub is_abandoned_in : List HeldSession → ℕ → Bool
@@ -19,12 +20,8 @@ is_abandoned_in sessions number = option_map_or (λ (s : HeldSession). s.abandon
 abbrev pub unchanged_sessions : SessionsChange
 unchanged_sessions = record { abandoned = []; fetched = None; launched = false }
 
-abbrev pub are_none : {A : Type 0} → List A → Bool
-are_none [] = true
-are_none (x ∷ xs) = false
-
 abbrev pub changes_sessions : SessionsChange → Bool
-changes_sessions change = not (are_none change.abandoned) || is_some change.fetched || change.launched
+changes_sessions change = not (is_empty change.abandoned) || is_some change.fetched || change.launched
 
 -- the one of that number is changed so, if it is there
 abbrev pub with_changed : (HeldSession → HeldSession) → List HeldSession → ℕ → List HeldSession

@@ -1,5 +1,5 @@
 -- What a store holds, in parts, and what an entry changes in them. Each part has its own change and its own step.
-use Rattle.std.specs.Prelude.{ℕ, ◌+◌, ◌&&◌, ◌∷◌, Bool, true, false, not, List, [], Option, None, is_none}
+use Rattle.std.specs.Prelude.{ℕ, ◌+◌, ◌&&◌, Bool, not, List, [], Option, None, is_none}
 use Rattle.cmi5_course.specs.Courses.{Course}
 use Rattle.cmi5_course.specs.declared.launch.Launch.{Launch}
 use Rattle.lrs_state.specs.Courses.{courses_after, unchanged_courses}
@@ -19,6 +19,7 @@ use Rattle.lrs_state.specs.declared.effect.Effect.{Effect}
 use Rattle.lrs_state.specs.declared.founding.Founding.{Founding}
 use Rattle.lrs_state.specs.declared.registrations.HeldRegistration.{HeldRegistration}
 use Rattle.lrs_ids.specs.Ids.{Used, either, those}
+pub use Rattle.lrs_time.specs.Reading.{is_empty}
 use Rattle.lrs_state.specs.declared.acceptance.Acceptance.TheVariants.{Plain}
 use Rattle.lrs_register.specs.Changes.{changes}
 use Rattle.xapi_statement.specs.Statements.{add_each, ids_of}
@@ -89,10 +90,6 @@ no_change moment = record {
   moment = moment;
   acceptance = Plain;
 }
-
-abbrev pub is_empty : {A : Type 0} → List A → Bool
-is_empty [] = true
-is_empty (x ∷ xs) = false
 
 -- it changes nothing of what is held of courses and of their learners
 abbrev pub changes_no_learning : Effect → Bool

@@ -10,6 +10,7 @@ use Rattle.std.proofs.lemmas.List.{take-append-drop}
 use Rattle.std.proofs.lemmas.List.Folds.{length-prefix_len}
 use Rattle.lrs_time.specs.Digits.{IsNumeral}
 use Rattle.lrs_time.specs.Reading.{numeral_at}
+use Rattle.lrs_decimal.proofs.Runs.{drop_front, take_front}
 
 -- ---- one digit
 
@@ -64,14 +65,6 @@ len_stopped (b ∷ bs) stops = rw stops refl
 pub len_again : (ds rest : List ℕ) → AllDigits 10 ds → Stops rest → prefix_len is_ascii_digit (ds ++ rest) ≡ length ds
 len_again [] rest all stops = len_stopped rest stops
 len_again (d ∷ ds) rest all stops = let passes = digit_test d all.0 in rw (passes, len_again ds rest all.1 stops) (omega arith)
-
-take_front : (xs rest : List ℕ) → take (length xs) (xs ++ rest) ≡ xs
-take_front [] rest = refl
-take_front (x ∷ xs) rest = ap (λ ys. x ∷ ys) (take_front xs rest)
-
-drop_front : (xs rest : List ℕ) → drop (length xs) (xs ++ rest) ≡ rest
-drop_front [] rest = refl
-drop_front (x ∷ xs) rest = drop_front xs rest
 
 few_true : (n most : ℕ) → 0 < n → n ≤ most → (nat_le 1 n && nat_le n most) ≡ true
 few_true n most h k = grind arith

@@ -6,6 +6,7 @@ use Rattle.std.specs.Str.Parse.{digits_value}
 use Rattle.std.proofs.lemmas.Grind.{common_steps}
 use Rattle.std.proofs.lemmas.List.{append-nil}
 use Rattle.std.proofs.lemmas.Option.{cond_some, option_and_then_some, same_Some, none-some}
+use Rattle.std.proofs.lemmas.Bool.{or_right}
 use Rattle.lrs_time.specs.Digits.{IsNumeral, cut_fraction}
 use Rattle.lrs_time.specs.Duration.{Amount, is_decimal_sign, IsDecimalPart, IsAmount, billionths, field_text, fields_text, EachAmount, all_missing, FractionIsLast, Fields, date_fields, clock_fields, date_units, clock_units, clock_text, SpellsDuration, Span, span_of, IsNoDuration, IsDurationOf, IsSameSpan, same_span}
 use Rattle.lrs_time.specs.Reading.{numeral_at, after, quantity_behind, quantity_at, is_empty, unit_behind, field_at, fields_at, all_none, if_some_field, clock_fields_at, span_from, fields_together, duration_at}
@@ -191,10 +192,6 @@ fields_found (unit ∷ units) text =
     let fs = fields_found units (field_at unit text).1 in
     let both = add_field unit units text f.0 fs.0 (field_at unit text).1 (fields_at units (field_at unit text).1).1 f.1 f.4 fs.1 fs.2 fs.4 fs.5 in
     (f.0 ∷ fs.0, omega (arith, fs.1), both.0, cc (f.2, fs.3), f.3 ∙ ap (λ z. field_text unit f.0 ++ z) fs.4 ∙ sym (append_assoc (field_text unit f.0) (fields_text units fs.0) (fields_at units (field_at unit text).1).1), both.1)
-
-or_right : (a b : Bool) → b ≡ true → (a || b) ≡ true
-or_right true b e = refl
-or_right false b e = e
 
 -- ---- fields that stand are found, and those that don't aren't
 

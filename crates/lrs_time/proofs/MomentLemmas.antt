@@ -35,7 +35,7 @@ year_from_epoch d h =
 
 -- ---- three digits of a fraction
 
-digit_of : (n : ℕ) → n < 10 → digit_value (48 + n) ≡ n
+pub digit_of : (n : ℕ) → n < 10 → digit_value (48 + n) ≡ n
 digit_of n h = grind arith
 
 three_digits_are : (n : ℕ) → n < 1000 → AllDigits 10 (three_digits n)

@@ -2,17 +2,15 @@
 use Rattle.std.proofs.Common.{◌≡◌, ℕ, ◌+◌, ◌*◌, ◌/◌, ◌%◌, ◌<◌, ◌≤◌, ◌==◌, inr, List, [], ◌∷◌, ◌++◌, Bool, true, false, Some, None, drop, if◌then◌else◌, refl, sym, ap, ◌∙◌, arith}
 use Rattle.std.specs.Fmt.{decimal}
 use Rattle.std.specs.Str.Parse.{digits_value}
-use Rattle.std.specs.Char.{digit_value}
 use Rattle.std.proofs.lemmas.Fmt.{decimal_is_IsNumeral, length-decimal-le}
 use Rattle.std.proofs.lemmas.Grind.{common_steps}
 use Rattle.std.proofs.lemmas.List.{append-nil}
 use Rattle.lrs_time.specs.Digits.{IsNumeral, two_digits, cut_fraction}
 use Rattle.lrs_time.specs.Duration.{Amount, IsDecimalPart, billionths, Fields, IsDurationOf, seconds_text, span_of_hundredths}
 use Rattle.lrs_time.specs.Reading.{duration_at}
+use Rattle.lrs_time.specs.declared.seconds.TheConstants.{LONGEST_SPAN}
 use Rattle.lrs_time.proofs.DurationLemmas.{duration_again}
-
-digit_of : (n : ℕ) → n < 10 → digit_value (48 + n) ≡ n
-digit_of n h = grind arith
+use Rattle.lrs_time.proofs.MomentLemmas.{digit_of}
 
 two_digits_numeral : (n : ℕ) → n < 100 → IsNumeral 9 (two_digits n)
 two_digits_numeral n h = record {
@@ -49,13 +47,13 @@ spelled_with ms text ds f n value fraction part e =
       ap (λ (s : ℕ). record { years = 0; months = 0; weeks = 0; days = 0; hours = 0; minutes = 0; seconds = s }) all,
     )
 
-pub seconds_duration : (ms : ℕ) → ms ≤ 999_999_999_999 → IsDurationOf (seconds_text ms) (span_of_hundredths (ms / 10))
+pub seconds_duration : (ms : ℕ) → ms ≤ LONGEST_SPAN → IsDurationOf (seconds_text ms) (span_of_hundredths (ms / 10))
 seconds_duration ms h =
     let whole = decimal_numeral (ms / 1000) (omega arith) in
     let part = hundredths_fraction (ms % 1000 / 10) (ms % 1000 / 10 == 0) refl (omega arith) in
     spelled_with ms (seconds_text ms) (decimal (ms / 1000)) part.0 whole.0 whole.1 part.1 part.3 (ap (λ z. 80 ∷ 84 ∷ (decimal (ms / 1000) ++ (z ++ (83 ∷ [])))) part.2)
 
-pub seconds_read_back : (ms : ℕ) → ms ≤ 999_999_999_999 → duration_at (seconds_text ms) ≡ Some (span_of_hundredths (ms / 10))
+pub seconds_read_back : (ms : ℕ) → ms ≤ LONGEST_SPAN → duration_at (seconds_text ms) ≡ Some (span_of_hundredths (ms / 10))
 seconds_read_back ms h =
     let d = seconds_duration ms h in
     duration_again (seconds_text ms) d.0 d.1 ∙ ap Some d.2

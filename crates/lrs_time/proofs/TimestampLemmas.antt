@@ -277,7 +277,7 @@ offset_again (extended true h m) lt = rw (extended_again h m lt.0 lt.1) refl
 
 -- ---- the whole text
 
--- what a timestamp says, of what its places spell
+-- what a timestamp says, of what its fields spell
 abbrev pub parts_of : Stamp → Parts
 parts_of s = record {
   date = record { year = s.year; month = s.month; day = s.day };

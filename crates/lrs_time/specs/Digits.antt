@@ -20,7 +20,7 @@ pub record IsNumeral (most : ℕ) (ds : List ℕ) : Type 0 where
   pub some : 0 < length ds
   pub few : length ds ≤ most
 
--- The digits after a decimal point as a count of the unit 10 ^ -places.
--- Digits after these places are cut off.
+-- The digits after a decimal point as a count of the unit 10 ^ -decimals.
+-- Digits after these decimals are cut off.
 abbrev pub cut_fraction : ℕ → List ℕ → ℕ
-cut_fraction places ds = digits_value 10 (take places ds) * 10 ^ (places - length ds)
+cut_fraction decimals ds = digits_value 10 (take decimals ds) * 10 ^ (decimals - length ds)

@@ -65,7 +65,7 @@ FractionIsLast (Some a ∷ fs) = ((a.fraction ≡ []) ⊎ IsTrue (all_missing fs
 
 -- ---- the whole text
 
--- what the places of a duration spell
+-- what the fields of a duration spell
 pub record Fields : Type 0 where
   pub years : Option Amount
   pub months : Option Amount

@@ -106,7 +106,7 @@ parts_at text = do
   offset ← offset_at nanosecond.1
   Some (record { date = date.0; second = second.0; nanosecond = nanosecond.0; offset = offset })
 
--- what the places of a text can say
+-- what the fields of a text can say
 pub record AreInRange (p : Parts) : Type 0 where
   pub year : p.date.year < 10000
   pub month : p.date.month < 100
@@ -153,9 +153,9 @@ quantity_behind billionths (byte ∷ rest) =
 unfoldable pub quantity_at : Front Quantity
 quantity_at text = numeral_at 9 text >>= (λ digits. quantity_behind (digits_value 10 digits.0 * BILLION) digits.1)
 
-abbrev pub is_empty : List ℕ → Bool
+abbrev pub is_empty : {A : Type 0} → List A → Bool
 is_empty [] = true
-is_empty (b ∷ bs) = false
+is_empty (x ∷ xs) = false
 
 -- the field of the unit, if its letter stands after the number, and nothing after a fraction
 abbrev pub unit_behind : ℕ → List ℕ → Option (Quantity × List ℕ) → Option ℕ × List ℕ

@@ -59,7 +59,7 @@ abbrev pub seconds_ahead : Bool → ℕ → ℤ
 seconds_ahead false minutes = pos (minutes * 60)
 seconds_ahead true minutes = neg_ℤ (pos (minutes * 60))
 
--- what the places of a timestamp spell
+-- what the fields of a timestamp spell
 pub record Stamp : Type 0 where
   pub year : ℕ
   pub month : ℕ
@@ -91,7 +91,7 @@ clock_text s = two_digits s.hour ++ (58 ∷ two_digits s.minute) ++ (58 ∷ two_
 abbrev pub stamp_text : Stamp → List ℕ
 stamp_text s = date_text s ++ (84 ∷ clock_text s) ++ fraction_text s.fraction ++ zone_text s.zone
 
--- Each place holds what its digits can show and a clock does. The calendar isn't asked yet.
+-- Each field holds what its digits can show and a clock does. The calendar isn't asked yet.
 pub record IsStamp (s : Stamp) : Type 0 where
   pub year : s.year < 10000
   pub month : s.month < 100
@@ -156,7 +156,7 @@ IsMomentText moment text =
     (s : Stamp) × SpellsStamp text s × HasDay s × (length s.fraction ≡ 3) × (s.zone ≡ utc)
     × (instant_of s ≡ instant_of_moment moment)
 
--- what the places of such a text spell
+-- what the fields of such a text spell
 abbrev pub utc_stamp : (year month day hour minute second millisecond : ℕ) → Stamp
 utc_stamp year month day hour minute second millisecond = record {
   year = year;

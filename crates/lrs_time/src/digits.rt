@@ -34,15 +34,15 @@ pub(crate) fn read_numeral(most: usize, text: &[u8]) -> Option<(&[u8], &[u8])>
     Some(text.split_at(len))
 }
 
-/// The digits after a decimal point as a count of the unit `10 ^ -places`, cut off.
-pub(crate) fn cut(places: usize, digits: &[u8]) -> u32
+/// The digits after a decimal point as a count of the unit `10 ^ -decimals`, cut off.
+pub(crate) fn cut(decimals: usize, digits: &[u8]) -> u32
     requires digits { AllDigits 10 digits.now }
-    requires few { places ≤ 9 }
-    ensures value { result ≡ cut_fraction places digits.now }
-    ensures bound { result < 10 ^ places }
+    requires few { decimals ≤ 9 }
+    ensures value { result ≡ cut_fraction decimals digits.now }
+    ensures bound { result < 10 ^ decimals }
 {
-    let kept = &digits[..digits.len().min(places)];
-    digits_value(kept) as u32 * 10u32.pow((places - kept.len()) as u32)
+    let kept = &digits[..digits.len().min(decimals)];
+    digits_value(kept) as u32 * 10u32.pow((decimals - kept.len()) as u32)
 }
 
 /// What follows the byte `wanted`, if it comes first.

@@ -12,5 +12,5 @@ mod timestamps;
 pub use durations::Duration;
 pub use instants::Instant;
 pub use moments::{LATEST, Moment, moment_text};
-pub use seconds::{Memory, seconds_text};
+pub use seconds::{LONGEST_SPAN, Memory, seconds_text};
 pub use timestamps::{TimeRefused, read_timestamp};

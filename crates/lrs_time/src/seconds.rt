@@ -7,6 +7,9 @@ use crate::digits::in_two_digits;
 use itoa::Buffer;
 use std::alloc::AllocError;
 
+/// The longest span that is told as a duration, in milliseconds: its seconds have nine digits.
+pub const LONGEST_SPAN: u64 = 999_999_999_999;
+
 /// Memory ran out.
 #[derive(Clone, Copy, Debug, PartialEq, Eq)]
 pub struct Memory;
@@ -18,9 +21,9 @@ pub fn seconds_text(ms: u64, into: &mut Vec<u8>) -> Result<(), Memory>
     ensures err { OnErr result (into.new.items ≡ into.old.items) }
 
     // What is appended is a duration, and read as one: a number has up to nine digits there.
-    ensures duration { ms ≤ 999_999_999_999 →
+    ensures duration { ms ≤ LONGEST_SPAN →
         IsDurationOf (seconds_text ms) (span_of_hundredths (ms / 10)) }
-    ensures reads_back { ms ≤ 999_999_999_999 →
+    ensures reads_back { ms ≤ LONGEST_SPAN →
         duration_at (seconds_text ms) ≡ Some (span_of_hundredths (ms / 10)) }
 {
     let length = into.len();

@@ -261,7 +261,7 @@ const TIMES: [(&str, i128); 19] = [
     ("1970-01-01T00:00:00.1234567899Z", 123_456_789),
 ];
 
-// The place of the first row that is wrong.
+// The index of the first row that is wrong.
 fn wrong_time() -> Option<usize> {
     for (i, (text, nanoseconds)) in TIMES.iter().enumerate() {
         if nanoseconds_of(text) != Some(*nanoseconds) {
@@ -331,7 +331,7 @@ const NEGATIVE_ZEROS: [&str; 4] = [
     "2000-02-29T23:59:59.5-00:00",
 ];
 
-// The place of the first text that is not refused so.
+// The index of the first text that is not refused so.
 fn not_refused(texts: &[&str], why: TimeRefused) -> Option<usize> {
     for (i, text) in texts.iter().enumerate() {
         if read_timestamp(text.as_bytes()) != Err(why) {
@@ -435,7 +435,7 @@ const NO_DURATIONS: [&str; 26] = [
     "PT1.5.5S",
 ];
 
-// The place of the first text that is no duration, or is one.
+// The index of the first text that is no duration, or is one.
 fn other_than(texts: &[&str], is_duration: bool) -> Option<usize> {
     for (i, text) in texts.iter().enumerate() {
         if Duration::read(text.as_bytes()).is_some() != is_duration {

@@ -11,7 +11,7 @@ use Rattle.atomic_table.proofs.Lists.{at_set, set_again, set_else, at_snoc, at_l
 use Rattle.lrs_turn.specs.declared.view.View.{View}
 use Rattle.lrs_turn.specs.declared.view.Sight.{Sight}
 use Rattle.lrs_turn.specs.Lists.{Each, NoneFalls, total, times}
-use Rattle.lrs_turn.specs.Rule.{Meaning, Whole, Fits, AreAt, parts_of, own_times, Books, seeing, pointed_view, committed_view, rising, given_view, spent, less, another, both, starter, turn_of, Shows, Place, Turn, KeptBy, Kept, Takes, Gives, Rests, Fetches, Points, Commits}
+use Rattle.lrs_turn.specs.Rule.{Meaning, Whole, Fits, AreAt, parts_of, own_times, Books, seeing, pointed_view, committed_view, rising, given_view, spent, less, another, both, starter, turn_of, Shows, StandsAt, Turn, KeptBy, Kept, Takes, Gives, Rests, Fetches, Points, Commits}
 
 -- lists
 module _ {A : Type 0} where
@@ -361,7 +361,7 @@ module _ {S T : Type 0} (m : Meaning S T) (passes : ℕ) where
 
   -- what a worker with the turn knows
   abbrev Holds : Whole T → State (Option S) (View T) → ℕ → View T → Type 0
-  Holds a s id v = KeptBy m passes a (Some id) s × (0 < v.parts) × (v.line ≡ a.log) × (v.level ≡ a.tide) × Place m s.homes v.out × (v.holds ≡ true)
+  Holds a s id v = KeptBy m passes a (Some id) s × (0 < v.parts) × (v.line ≡ a.log) × (v.level ≡ a.tide) × StandsAt m s.homes v.out × (v.holds ≡ true)
 
   knows : (s : State (Option S) (View T)) (a : Whole T) (h : Option ℕ) (id : ℕ) (v : View T) → KeptBy m passes a h s → AreAt s.views id v → v.holds ≡ true → Holds a s id v
   knows s a None id v kept mine on = absurd (apart v.holds on (kept.turn.0 id v mine))
@@ -374,7 +374,7 @@ module _ {S T : Type 0} (m : Meaning S T) (passes : ℕ) where
           subst (λ (x : View T). 0 < x.parts) is kept.turn.1.2,
           subst (λ (x : View T). x.line ≡ a.log) is kept.turn.1.3,
           subst (λ (x : View T). x.level ≡ a.tide) is kept.turn.1.4,
-          subst (λ (x : View T). Place m s.homes x.out) is kept.turn.1.5,
+          subst (λ (x : View T). StandsAt m s.homes x.out) is kept.turn.1.5,
           on,
         ))
     | inr other ↦ absurd (apart v.holds on (kept.turn.0 id v mine other))
@@ -382,9 +382,9 @@ module _ {S T : Type 0} (m : Meaning S T) (passes : ℕ) where
 
   moved : (s : State (Option S) (View T)) (a : Whole T) (id i n : ℕ) (v w : View T) (homes : List (core.Option (Option S)))
       → Holds a s id v → AreAt s.views id v → w.parts ≡ v.parts → w.own ≡ v.own → w.line ≡ v.line → w.level ≡ v.level
-      → w.holds ≡ v.holds → Each (Fits a) w.sights → Place m homes w.out → set s.words i n ≡ s.words
+      → w.holds ≡ v.holds → Each (Fits a) w.sights → StandsAt m homes w.out → set s.words i n ≡ s.words
       → KeptBy m passes a (Some id) record { words = set s.words i n; homes = homes; views = set s.views id w }
-  moved s a id i n v w homes has mine parts own line level holds fits place words =
+  moved s a id i n v w homes has mine parts own line level holds fits stands words =
       let kept = has.0 in
       record {
         words = words ∙ kept.words;
@@ -395,7 +395,7 @@ module _ {S T : Type 0} (m : Meaning S T) (passes : ℕ) where
             | inl t ↦ absurd (ne t.0)
             | inr t ↦ kept.turn.0 k u t.1 ne
           ],
-          (w, set_it s.views id v w mine, subst (λ (x : ℕ). 0 < x) (sym parts) has.1, line ∙ has.2, level ∙ has.3, place, holds ∙ has.5),
+          (w, set_it s.views id v w mine, subst (λ (x : ℕ). 0 < x) (sym parts) has.1, line ∙ has.2, level ∙ has.3, stands, holds ∙ has.5),
         );
         books = books_same passes a.opening (length a.log) s.views id v w kept.books mine parts has.1 own;
       }

@@ -121,8 +121,8 @@ module _ {S T : Type 0} (m : Meaning S T) where
   Shows a s = (m.line s ≡ a.log) × (m.marks s ≡ a.marks) × (m.tide s ≡ a.tide)
 
   -- where the slot is while somebody holds the turn: out with its seat, or at home and empty
-  abbrev pub Place : List (core.Option (Option S)) → Bool → Type 0
-  Place homes out = ((out ≡ true) × (homes ≡ core.none ∷ [])) ⊎ ((out ≡ false) × (homes ≡ core.some None ∷ []))
+  abbrev pub StandsAt : List (core.Option (Option S)) → Bool → Type 0
+  StandsAt homes out = ((out ≡ true) × (homes ≡ core.none ∷ [])) ⊎ ((out ≡ false) × (homes ≡ core.some None ∷ []))
 
   -- with the turn free the state is at home and shows the whole; else one view, which has a part, knows the list
   abbrev pub Turn : Whole T → List (core.Option (Option S)) → List (View T) → Option ℕ → Type 0
@@ -132,7 +132,7 @@ module _ {S T : Type 0} (m : Meaning S T) where
   Turn a homes views (Some j) =
       ((k : ℕ) (v : View T) → AreAt views k v → k ≢ j → v.holds ≡ false)
       × ((v : View T) × AreAt views j v × (0 < v.parts) × (v.line ≡ a.log) × (v.level ≡ a.tide)
-      × Place homes v.out × (v.holds ≡ true))
+      × StandsAt homes v.out × (v.holds ≡ true))
 
   -- Between any two steps.
   pub record KeptBy (passes : ℕ) (a : Whole T) (holder : Option ℕ) (s : State (Option S) (View T)) : Type 0 where

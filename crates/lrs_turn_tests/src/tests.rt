@@ -96,16 +96,16 @@ fn add_with<R: Wait>(
     rt: &R,
     turns: &Turns<Tally>,
     passes: &mut [Pass<u64>],
-    place: usize,
+    index: usize,
     wanted: u32,
 ) -> u64
-    requires place { place < length passes.old }
+    requires index { index < length passes.old }
     requires idle { All (λ p. IsIdle turns.now p) passes.old }
     ensures idle { All (λ p. IsIdle turns.now p) passes.new }
     ensures len { length passes.new ≡ length passes.old }
 {
-    add(rt, turns, &mut passes[place], wanted);
-    passes[place].front()
+    add(rt, turns, &mut passes[index], wanted);
+    passes[index].front()
 }
 
 // Looks at the state with one of the passes, and answers how many records it has seen before and behind.
@@ -113,16 +113,16 @@ fn look_with<R: Wait>(
     rt: &R,
     turns: &Turns<Tally>,
     passes: &mut [Pass<u64>],
-    place: usize,
+    index: usize,
 ) -> (u64, u64)
-    requires place { place < length passes.old }
+    requires index { index < length passes.old }
     requires idle { All (λ p. IsIdle turns.now p) passes.old }
     ensures idle { All (λ p. IsIdle turns.now p) passes.new }
     ensures len { length passes.new ≡ length passes.old }
 {
-    let before = passes[place].front();
-    look(rt, turns, &mut passes[place]);
-    (before, passes[place].front())
+    let before = passes[index].front();
+    look(rt, turns, &mut passes[index]);
+    (before, passes[index].front())
 }
 
 // The numbers of records that two passes see: the one that added two, the other before and behind its look, and the

@@ -1,11 +1,10 @@
 -- What is alike of leaves is an equivalence.
-use Rattle.std.proofs.Common.{◌≡◌, ℕ, List, Bool, true, false, ◌&&◌, ◌⊎◌, inl, inr, refl, sym, ap, ◌∙◌, subst, true≢false, Equal, Less, Greater}
+use Rattle.std.proofs.Common.{◌≡◌, ℕ, List, Bool, true, false, ◌&&◌, ◌⊎◌, inl, inr, refl, sym, ap, ◌∙◌, subst, true≢false, Equal}
 use Rattle.std.proofs.lemmas.Bool.{and_from, or_cases, or_left, or_right}
 use Rattle.std.proofs.lemmas.Cmp.{nat_list_eq_equiv, int_eq_equiv}
 use Rattle.std.specs.declared.cmp.Ordering.{Ordering}
 use Rattle.std.specs.Ordering.{is_eq}
 use Rattle.std.specs.Str.{bytes_eq}
-use Rattle.std.proofs.lemmas.Slice.Eq.{bytes_eq-Decides}
 use Rattle.std.specs.Cmp.{both_ways, first_so, second_so}
 use Rattle.lrs_decimal.specs.Values.{order}
 use Rattle.lrs_decimal.proofs.Orders.{order-sym, order-trans}
@@ -14,7 +13,9 @@ use Rattle.lrs_decimal.specs.Range.{is_decimal}
 use Rattle.xapi_values.specs.declared.kinds.Kind.{Kind}
 use Rattle.xapi_alike.specs.Normal.{Words, letters, uuid, instant, lasting}
 use Rattle.xapi_values.specs.Kinds.{same_kind}
+use Rattle.xapi_values.specs.Numbers.{are_equal}
 use Rattle.xapi_alike.specs.Alike.{same_amount, same_words, same_truth}
+use Rattle.lrs_json_equal.proofs.SameValues.{is_equal, name_is}
 
 -- ---- truth values
 
@@ -49,21 +50,12 @@ kind_is _ _ e = absurd (true≢false (sym e))
 
 -- ---- numbers
 
-is_equal : (o : Ordering) → is_eq o ≡ true → o ≡ Equal
-is_equal Less e = absurd (true≢false (sym e))
-is_equal Equal e = refl
-is_equal Greater e = absurd (true≢false (sym e))
-
--- numbers in range of one value
-abbrev of_one_value : List ℕ → List ℕ → Bool
-of_one_value s t = is_decimal s && is_decimal t && is_eq (order s t)
-
 record OfOneValue (s t : List ℕ) : Type 0 where
   first : is_decimal s ≡ true
   second : is_decimal t ≡ true
   equal : order s t ≡ Equal
 
-taken_apart : (s t : List ℕ) → of_one_value s t ≡ true → OfOneValue s t
+taken_apart : (s t : List ℕ) → are_equal s t ≡ true → OfOneValue s t
 taken_apart s t e =
     let front = first_so (is_decimal s && is_decimal t) (is_eq (order s t)) e in
     record {
@@ -72,34 +64,31 @@ taken_apart s t e =
       equal = is_equal (order s t) (second_so (is_decimal s && is_decimal t) (is_eq (order s t)) e);
     }
 
-put_together : (s t : List ℕ) → OfOneValue s t → of_one_value s t ≡ true
+put_together : (s t : List ℕ) → OfOneValue s t → are_equal s t ≡ true
 put_together s t o = and_from (is_decimal s && is_decimal t) (is_eq (order s t)) (and_from (is_decimal s) (is_decimal t) o.first o.second) (ap is_eq o.equal)
 
-spelled : (s t : List ℕ) → bytes_eq s t ≡ true → s ≡ t
-spelled s t e = (bytes_eq-Decides s t).0 e
-
 amount_sym : (s t : List ℕ) → same_amount s t ≡ true → same_amount t s ≡ true
-amount_sym s t e = turned (or_cases (bytes_eq s t) (of_one_value s t) e)
+amount_sym s t e = turned (or_cases (bytes_eq s t) (are_equal s t) e)
   where
-    turned : (bytes_eq s t ≡ true) ⊎ (of_one_value s t ≡ true) → same_amount t s ≡ true
-    turned (inl f) = or_left (bytes_eq t s) (of_one_value t s) (sym (nat_list_eq_equiv.symm s t) ∙ f)
+    turned : (bytes_eq s t ≡ true) ⊎ (are_equal s t ≡ true) → same_amount t s ≡ true
+    turned (inl f) = or_left (bytes_eq t s) (are_equal t s) (sym (nat_list_eq_equiv.symm s t) ∙ f)
     turned (inr f) =
         let o = taken_apart s t f in
-        or_right (bytes_eq t s) (of_one_value t s) (put_together t s (record { first = o.second; second = o.first; equal = order-sym s t o.equal }))
+        or_right (bytes_eq t s) (are_equal t s) (put_together t s (record { first = o.second; second = o.first; equal = order-sym s t o.equal }))
 
 amount_trans : (s t u : List ℕ) → same_amount s t ≡ true → same_amount t u ≡ true → same_amount s u ≡ true
-amount_trans s t u e f = joined (or_cases (bytes_eq s t) (of_one_value s t) e) (or_cases (bytes_eq t u) (of_one_value t u) f)
+amount_trans s t u e f = joined (or_cases (bytes_eq s t) (are_equal s t) e) (or_cases (bytes_eq t u) (are_equal t u) f)
   where
-    joined : (bytes_eq s t ≡ true) ⊎ (of_one_value s t ≡ true) → (bytes_eq t u ≡ true) ⊎ (of_one_value t u ≡ true) → same_amount s u ≡ true
-    joined (inl a) b = subst (λ (z : List ℕ). same_amount z u ≡ true) (sym (spelled s t a)) f
-    joined (inr a) (inl b) = subst (λ (z : List ℕ). same_amount s z ≡ true) (spelled t u b) e
+    joined : (bytes_eq s t ≡ true) ⊎ (are_equal s t ≡ true) → (bytes_eq t u ≡ true) ⊎ (are_equal t u ≡ true) → same_amount s u ≡ true
+    joined (inl a) b = subst (λ (z : List ℕ). same_amount z u ≡ true) (sym (name_is s t a)) f
+    joined (inr a) (inl b) = subst (λ (z : List ℕ). same_amount s z ≡ true) (name_is t u b) e
     joined (inr a) (inr b) =
         let o = taken_apart s t a in
         let p = taken_apart t u b in
-        or_right (bytes_eq s u) (of_one_value s u) (put_together s u (record { first = o.first; second = p.second; equal = order-trans s t u o.equal p.equal }))
+        or_right (bytes_eq s u) (are_equal s u) (put_together s u (record { first = o.first; second = p.second; equal = order-trans s t u o.equal p.equal }))
 
 pub amount_refl : (s : List ℕ) → same_amount s s ≡ true
-amount_refl s = or_left (bytes_eq s s) (of_one_value s s) (nat_list_eq_equiv.refl s)
+amount_refl s = or_left (bytes_eq s s) (are_equal s s) (nat_list_eq_equiv.refl s)
 
 pub amount_congr : (s t u : List ℕ) → same_amount s t ≡ true → same_amount s u ≡ same_amount t u
 amount_congr s t u e = both_ways (same_amount s u) (same_amount t u) (λ f. amount_trans t s u (amount_sym s t e) f) (λ f. amount_trans s t u e f)

@@ -3,12 +3,12 @@ use Rattle.std.proofs.Common.{◌≡◌, ℕ, List, [], ◌∷◌, Bool, true, f
 use Rattle.std.proofs.lemmas.Bool.{and_from, or_cases, or_left, or_right}
 use Rattle.std.proofs.lemmas.Cmp.{nat_list_eq_equiv}
 use Rattle.std.specs.Str.{bytes_eq}
-use Rattle.std.proofs.lemmas.Slice.Eq.{bytes_eq-Decides}
 use Rattle.std.specs.Cmp.{both_ways, first_so, second_so}
 use Rattle.lrs_json.specs.Names.{is_among}
 use Rattle.xapi_alike.specs.Normal.{Normal, Named, unnamed, named}
 use Rattle.xapi_alike.specs.Alike.{alike, has_name, any_named, named_alike, are_named}
 use Rattle.xapi_alike.proofs.Neat.{Neat, NeatNamed, find_named, Leads, leads_on, leads_first, some_same, none_some, neat_found}
+use Rattle.lrs_json_equal.proofs.SameValues.{name_is}
 
 -- x is alike to what y is alike to
 abbrev pub Agrees : Normal → Normal → Type 0
@@ -17,9 +17,6 @@ Agrees x y = (z : Normal) → alike x z ≡ alike y z
 -- what is found in ms agrees with each that is alike
 abbrev pub FoundAgree : Named → Type 0
 FoundAgree ms = (k : List ℕ) (x y : Normal) → find_named k ms ≡ Some x → Neat y → alike x y ≡ true → Agrees x y
-
-pub name_is : (n k : List ℕ) → bytes_eq n k ≡ true → n ≡ k
-name_is n k e = (bytes_eq-Decides n k).0 e
 
 some_value : (o : Option Normal) → is_some o ≡ true → (x : Normal) × (o ≡ Some x)
 some_value None e = absurd (true≢false (sym e))

@@ -23,10 +23,10 @@ use Rattle.xapi_alike.specs.Alike.{alike, count, same_count, as_often, size, sam
 use Rattle.xapi_alike.specs.Steps.{has_member_named}
 use Rattle.xapi_alike.specs.Ranks.{indices_to, has_own_names, have_own_names, are_own_names}
 use Rattle.xapi_alike.proofs.Neat.{Neat, NeatAll, NeatNamed, neat_alone, neat_member}
-use Rattle.xapi_alike.proofs.Objects.{name_is}
 use Rattle.xapi_alike.proofs.Bags.{In, neat_in, as_often_counts, counts_as_often}
 use Rattle.xapi_alike.proofs.Laws.{alike-sym, alike-trans}
 use Rattle.xapi_alike.proofs.Walks.{sizes_agree}
+use Rattle.lrs_json_equal.proofs.SameValues.{name_is}
 
 -- ---- names of their own
 
@@ -100,9 +100,9 @@ one_more_index f p ts n x here there e =
     ∙ (sym (count_last f p (take n ts) x) ∙ ap (λ (us : List Tree). count f (bag p us)) (sym there))))
 
 -- the items that pass, counted over the indices below n
-count_places : (f : Normal → Bool) (p : Role) (ts : List Tree) (n : ℕ) → n ≤ length ts → sum_by (passing_at f p ts) (indices_to n) ≡ count f (bag p (take n ts))
-count_places f p ts zero h = refl
-count_places f p ts (suc n) h = here (slice_get_cases ts n).1 (count_places f p ts n (omega (arith, h)))
+count_indices : (f : Normal → Bool) (p : Role) (ts : List Tree) (n : ℕ) → n ≤ length ts → sum_by (passing_at f p ts) (indices_to n) ≡ count f (bag p (take n ts))
+count_indices f p ts zero h = refl
+count_indices f p ts (suc n) h = here (slice_get_cases ts n).1 (count_indices f p ts n (omega (arith, h)))
   where
     here : ((x : Tree) × (n < length ts) × (slice_get ts n ≡ Some x) × (get_or ts n x ≡ x)) ⊎ ((length ts ≤ n) × (slice_get ts n ≡ None)) → sum_by (passing_at f p ts) (indices_to n) ≡ count f (bag p (take n ts))
         → sum_by (passing_at f p ts) (indices_to n ++ n ∷ []) ≡ count f (bag p (take (suc n) ts))
@@ -130,7 +130,7 @@ Ranked p ts us is js =
 
 whole : (f : Normal → Bool) (p : Role) (ts : List Tree) (is : List ℕ) → IsPermutation (indices_to (length ts)) is → count f (bag p ts) ≡ sum_by (passing_at f p ts) is
 whole f p ts is perm =
-    ap (λ (us : List Tree). count f (bag p us)) (sym (take-length ts)) ∙ (sym (count_places f p ts (length ts) (omega arith)) ∙ sym (sum_by-IsPermutation (passing_at f p ts) (indices_to (length ts)) is perm))
+    ap (λ (us : List Tree). count f (bag p us)) (sym (take-length ts)) ∙ (sym (count_indices f p ts (length ts) (omega arith)) ∙ sym (sum_by-IsPermutation (passing_at f p ts) (indices_to (length ts)) is perm))
 
 pub ranked_first : (p : Role) (ts us : List Tree) (is js : List ℕ) → length ts ≡ length us → IsPermutation (indices_to (length ts)) is → IsPermutation (indices_to (length us)) js → Ranked p ts us is js
 ranked_first p ts us is js e a b = (

@@ -1,5 +1,5 @@
 -- Members and items of a normal form, by those of the value.
-use Rattle.std.proofs.Common.{◌≡◌, ◌≢◌, ℕ, ◌==◌, suc, ◌+◌, ◌<◌, get_or, add-one, drop-cons, length, ◌≤◌, arith, Bool, true, false, ◌&&◌, ◌||◌, List, [], ◌∷◌, ◌++◌, map, take, drop, if◌then◌else◌, refl, sym, ap, ◌∙◌, true≢false}
+use Rattle.std.proofs.Common.{◌≡◌, ◌≢◌, ℕ, ◌==◌, suc, ◌+◌, ◌<◌, get_or, length, ◌≤◌, arith, Bool, true, false, ◌&&◌, ◌||◌, List, [], ◌∷◌, ◌++◌, map, take, drop, if◌then◌else◌, refl, sym, ap, ◌∙◌, true≢false}
 use Rattle.std.proofs.lemmas.Bool.{ne_eqb, eq-eqb}
 use Rattle.std.proofs.lemmas.List.{take-append-drop}
 use Rattle.std.specs.Str.{bytes_eq}
@@ -7,11 +7,13 @@ use Rattle.std.proofs.lemmas.Slice.Eq.{bytes_eq-Decides}
 use Rattle.lrs_json.specs.Json.{Json, array, object, Elements, Members, no_members, member}
 use Rattle.lrs_json.specs.View.{elements_of, member_view, members_of}
 use Rattle.lrs_json.specs.declared.tree.Member.{Member}
+use Rattle.lrs_json.proofs.Lists.{drop_item}
 use Rattle.xapi_alike.specs.declared.role.Role.{Role}
 use Rattle.xapi_alike.specs.Roles.{is_passed_over, kind_at, role_of_object, role_of_member, role_of_item, is_plural}
 use Rattle.xapi_alike.specs.Normal.{Normal, none, more, Named, named, normal, normal_one, normal_items, normal_members}
 use Rattle.xapi_alike.specs.Alike.{alike, all_alike, as_often, same_bag, has_name, any_named, named_alike, size}
 use Rattle.xapi_alike.specs.Steps.{is_alike_within, any_alike, has_member_named}
+use Rattle.lrs_json_equal.proofs.SameValues.{absurd_or}
 
 any_step : (p : Role) (k n : List ℕ) (t : Normal → Bool) (i : Json) (rest : Named) (passed same : Bool) → is_passed_over p n ≡ passed → bytes_eq n k ≡ same → (same ≡ true → n ≡ k)
     → is_passed_over p k ≡ false
@@ -122,23 +124,16 @@ step_at false k x rest ns e = ap (λ (c : Bool). c && named_alike rest ns) e
 named_step : (p : Role) (k : List ℕ) (j : Json) (ms : Members) (ns : Named) → is_alike_within p k j ns ≡ true → named_alike (normal_members p (member k j ms)) ns ≡ named_alike (normal_members p ms) ns
 named_step p k j ms ns e = step_at (is_passed_over p k) k (normal (role_of_member p k) j) (normal_members p ms) ns e
 
-drop_member : (ms : List Member) (i : ℕ) (m : Member) → i < length ms → m ≡ get_or ms i m → drop i ms ≡ m ∷ drop (i + 1) ms
-drop_member ms i m lt e = rw add-one (drop-cons ms i m lt ∙ ap (λ (z : Member). z ∷ drop (suc i) ms) (sym e))
-
 -- where the member in a role is alike to one, what is left after it decides
 pub named_on : (p : Role) (ts : List Member) (i : ℕ) (m : Member) (ns : Named) (r : Bool) → i < length ts → m ≡ get_or ts i m → r ≡ is_alike_within p (member_view m).0 (member_view m).1 ns → r ≡ true
     → named_alike (normal_members p (members_of (map member_view (drop i ts)))) ns ≡ named_alike (normal_members p (members_of (map member_view (drop (i + 1) ts)))) ns
 named_on p ts i m ns r lt at is found =
-    ap (λ (us : List Member). named_alike (normal_members p (members_of (map member_view us))) ns) (drop_member ts i m lt at)
+    ap (λ (us : List Member). named_alike (normal_members p (members_of (map member_view us))) ns) (drop_item ts i m lt at)
     ∙ named_step p (member_view m).0 (member_view m).1 (members_of (map member_view (drop (i + 1) ts))) ns (sym is ∙ found)
 
 pub size_items : (p : Role) (js : List Json) → size (normal_items p (elements_of js)) ≡ length js
 size_items p [] = refl
 size_items p (j ∷ js) = ap suc (size_items p js)
-
-absurd_and : (b c : Bool) → false ≡ c → false ≡ (b && c)
-absurd_and true c e = e
-absurd_and false c e = refl
 
 -- arrays of different lengths aren't alike one by one
 pub lengths_differ : (p : Role) (js ks : List Json) → length js ≢ length ks → false ≡ all_alike (normal_items p (elements_of js)) (normal_items p (elements_of ks))
@@ -147,7 +142,7 @@ lengths_differ p [] (k ∷ ks) n = refl
 lengths_differ p (j ∷ js) [] n = refl
 lengths_differ p (j ∷ js) (k ∷ ks) n =
     let tail : length js ≢ length ks = λ e. n (omega (arith, e)) in
-    absurd_and (alike (normal p j) (normal p k)) (all_alike (normal_items p (elements_of js)) (normal_items p (elements_of ks))) (lengths_differ p js ks tail)
+    absurd_or (alike (normal p j) (normal p k)) (all_alike (normal_items p (elements_of js)) (normal_items p (elements_of ks))) (lengths_differ p js ks tail)
 
 and_false : (b c : Bool) → b ≡ false → false ≡ (b && c)
 and_false b c e = rw e refl
@@ -178,12 +173,12 @@ is_activities _ e = absurd (true≢false (sym e))
 pub too_many : (y : Normal) (js : List Json) (p : Role) → 2 ≤ length js → false ≡ all_alike (normal_items p (elements_of js)) (more y none)
 too_many y [] p n = absurd (omega (arith, n))
 too_many y (j ∷ []) p n = absurd (omega (arith, n))
-too_many y (j ∷ k ∷ js) p n = absurd_and (alike (normal p j) y) false refl
+too_many y (j ∷ k ∷ js) p n = absurd_or (alike (normal p j) y) false refl
 
 pub too_few : (x : Normal) (js : List Json) (p : Role) → 2 ≤ length js → false ≡ all_alike (more x none) (normal_items p (elements_of js))
 too_few x [] p n = absurd (omega (arith, n))
 too_few x (j ∷ []) p n = absurd (omega (arith, n))
-too_few x (j ∷ k ∷ js) p n = absurd_and (alike x (normal p j)) false refl
+too_few x (j ∷ k ∷ js) p n = absurd_or (alike x (normal p j)) false refl
 
 pub array_and_object : (js : Elements) (ns : Members) → all_alike (normal_items Role.Activity js) (more (normal_one Role.Activity (object ns)) none) ≡ alike (normal Role.Activities (array js)) (normal Role.Activities (object ns))
 unfolding kind_at role_of_object role_of_item

@@ -62,9 +62,9 @@ module _ {K X : Type 0} where
         ∙ sym (ap (λ b. cond (not (b || false)) ((k, x) ∷ rest) rest) off))
         (cases_Bool (is_at (R q) k))
 
-  in_place : (q : K) (p : Option X) (few all : List (K × Option X)) → filled few ≡ filled all → filled ((q, p) ∷ few) ≡ filled ((q, p) ∷ all)
-  in_place q None few all h = h
-  in_place q (Some x) few all h = ap (λ l. (q, x) ∷ l) h
+  behind_slot : (q : K) (p : Option X) (few all : List (K × Option X)) → filled few ≡ filled all → filled ((q, p) ∷ few) ≡ filled ((q, p) ∷ all)
+  behind_slot q None few all h = h
+  behind_slot q (Some x) few all h = ap (λ l. (q, x) ∷ l) h
 
   -- a slot that is made is empty
   pub made : (R : K → K → Ordering) (k : K) (slots : List (K × Option X)) → lookup (is_at (R k)) slots ≡ None → filled (insert_entry R slots k None) ≡ filled slots
@@ -75,7 +75,7 @@ module _ {K X : Type 0} where
           → filled (match_ordering r ((k, None) ∷ (q, p) ∷ slots) ((q, None) ∷ slots) ((q, p) ∷ insert_entry R slots k None)) ≡ filled ((q, p) ∷ slots)
       by_order Less e rest = refl
       by_order Equal e rest = absurd (true≢false (ap is_some (sym (lookup_head (is_at (R k)) (q, p) slots (ap is_eq e)) ∙ none)))
-      by_order Greater e rest = in_place q p (insert_entry R slots k None) slots (rest (sym (lookup_tail (is_at (R k)) (q, p) slots (ap is_eq e)) ∙ none))
+      by_order Greater e rest = behind_slot q p (insert_entry R slots k None) slots (rest (sym (lookup_tail (is_at (R k)) (q, p) slots (ap is_eq e)) ∙ none))
 
   -- ---- what is written
 

@@ -7,7 +7,7 @@ use Rattle.std.specs.Ordering.{nat_cmp, ordering_then}
 use Rattle.std.specs.Str.{bytes_eq}
 use Rattle.std.proofs.lemmas.Cmp.{alike_right, eq_by_cmp_equiv, nat_list_cmp_total, on_total, then_total, tied_back}
 use Rattle.std.proofs.lemmas.Map.Lookups.{CmpEqualImpliesEq}
-use Rattle.std.proofs.lemmas.Slice.Eq.{bytes_eq-Decides}
+use Rattle.lrs_agents.proofs.SameAgents.{same_bytes, same_ifis}
 use Rattle.lrs_agents.specs.Identifiers.{same_ifi}
 use Rattle.lrs_agents.specs.declared.identifiers.Ifi.{Ifi}
 use Rattle.lrs_agents.specs.declared.identifiers.Ifi.TheVariants.{Mbox, MboxSha1, OpenId, Account}
@@ -94,33 +94,11 @@ keys_tied a b =
 
 -- ---- keys that tie are one
 
-same_ids : (a b : List ℕ) → bytes_eq a b ≡ true → a ≡ b
-same_ids a b e = (bytes_eq-Decides a b).0 e
-
-same_agents : (a b : Ifi) → same_ifi a b ≡ true → a ≡ b
-same_agents (Mbox a) (Mbox b) e = ap Mbox (same_ids a b e)
-same_agents (Mbox a) (MboxSha1 b) e = cc
-same_agents (Mbox a) (OpenId b) e = cc
-same_agents (Mbox a) (Account h n) e = cc
-same_agents (MboxSha1 a) (Mbox b) e = cc
-same_agents (MboxSha1 a) (MboxSha1 b) e = ap MboxSha1 (same_ids a b e)
-same_agents (MboxSha1 a) (OpenId b) e = cc
-same_agents (MboxSha1 a) (Account h n) e = cc
-same_agents (OpenId a) (Mbox b) e = cc
-same_agents (OpenId a) (MboxSha1 b) e = cc
-same_agents (OpenId a) (OpenId b) e = ap OpenId (same_ids a b e)
-same_agents (OpenId a) (Account h n) e = cc
-same_agents (Account h n) (Mbox b) e = cc
-same_agents (Account h n) (MboxSha1 b) e = cc
-same_agents (Account h n) (OpenId b) e = cc
-same_agents (Account h n) (Account g m) e =
-    ap (λ z. Account z n) (same_ids h g (first_so (bytes_eq h g) (bytes_eq n m) e)) ∙ ap (λ z. Account g z) (same_ids n m (second_so (bytes_eq h g) (bytes_eq n m) e))
-
 same_registrations : (a b : Option (List ℕ)) → same_registration a b ≡ true → a ≡ b
 same_registrations None None e = refl
 same_registrations None (Some b) e = cc
 same_registrations (Some a) None e = cc
-same_registrations (Some a) (Some b) e = ap Some (same_ids a b e)
+same_registrations (Some a) (Some b) e = ap Some (same_bytes a b e)
 
 pub keys_exact : CmpEqualImpliesEq key_cmp
 keys_exact a b e =
@@ -130,10 +108,10 @@ keys_exact a b e =
     let two = same_ifi a.agent b.agent in
     let three = same_registration a.registration b.registration in
     let front : (one && two) ≡ true = first_so (one && two) three of in
-    let activity = same_ids a.activity b.activity (first_so one two front) in
-    let agent = same_agents a.agent b.agent (second_so one two front) in
+    let activity = same_bytes a.activity b.activity (first_so one two front) in
+    let agent = same_ifis a.agent b.agent (second_so one two front) in
     let registration = same_registrations a.registration b.registration (second_so (one && two) three of) in
-    let state = same_ids a.state b.state (second_so (is_of b.activity b.agent b.registration a) (bytes_eq a.state b.state) both) in
+    let state = same_bytes a.state b.state (second_so (is_of b.activity b.agent b.registration a) (bytes_eq a.state b.state) both) in
     λ i. record { activity = activity i; agent = agent i; registration = registration i; state = state i }
 
 -- ---- the keys of an activity, an agent and a registration stand together

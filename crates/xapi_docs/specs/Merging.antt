@@ -1,5 +1,5 @@
 -- What becomes of a JSON object into which another one is merged (xAPI 1.0.3, part three, section 2.2): each member of
--- the new one replaces the old one's of its name, in its place and whole, or stands after all others.
+-- the new one replaces, whole and where it stands, the old one's of its name, or stands after all others.
 use Rattle.std.specs.Prelude.{◌≡◌, ℕ, suc, List, Option, Some, None, option_and_then, option_map, if◌then◌else◌}
 use Rattle.std.specs.BTreeMap.{BTreeMap, get}
 use Rattle.std.specs.Cmp.Lexicographic.{slice_cmp}

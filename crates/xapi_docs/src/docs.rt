@@ -4,10 +4,10 @@ ghost use Rattle.std.specs.Cmp.Lexicographic.{slice_cmp};
 ghost use Rattle.std.specs.Ordering.{nat_cmp};
 ghost use Rattle.std.specs.Option.{option_copied, option_map_or};
 ghost use Rattle.xapi_docs.specs.Changes.{documents_after};
-ghost use Rattle.xapi_docs.specs.Docs.{HasSlotFor, HasRoomForDocuments, MakesSlots, TakesSlotsBack, documents_in, is_empty_at, is_written};
+ghost use Rattle.lrs_register.specs.Slots.{HasSlot, KeepsOthers, KeepsSlots, MakesSlots, TakesSlotsBack, is_empty_at};
+ghost use Rattle.xapi_docs.specs.Docs.{AreHeld, HasRoomForDocuments, documents_in, is_written};
 ghost use Rattle.xapi_docs.specs.Documents.{document_under, ids_in, is_later, keys_in, with_document, without_documents};
-ghost use Rattle.xapi_keys.specs.Keys.{is_same_key, is_state};
-ghost use Rattle.xapi_keys.specs.declared.state_key.StateKey.{StateKey as SpecKey};
+ghost use Rattle.xapi_keys.specs.Keys.{is_same_key, is_state, key_cmp};
 
 use crate::{Document, DocumentsChange};
 use lrs_agents::Ifi;
@@ -112,9 +112,10 @@ impl Docs {
 
     /// Makes room for a document under a key.
     pub fn ready(&mut self, key: &StateKey) -> Result<(), Memory>
-        ensures made { MakesSlots (λ k. is_same_key key.now k) self.old self.new }
-        ensures ready { OnOk result (HasSlotFor self.new key.now) }
-        ensures kept { (k : SpecKey) → HasSlotFor self.old k → HasSlotFor self.new k }
+        ensures held { documents_in self.new ≡ documents_in self.old }
+        ensures made { MakesSlots key_cmp (λ k. is_same_key key.now k) self.old self.new }
+        ensures ready { OnOk result (HasSlot key_cmp self.new key.now) }
+        ensures kept { KeepsSlots key_cmp self.old self.new }
     {
         if !self.map.contains_key(key) {
             let before = self.map.insert(key.copy()?, None)?;
@@ -125,7 +126,9 @@ impl Docs {
 
     /// Takes back the slot that was made for a key, where it is empty.
     pub fn release(&mut self, key: &StateKey)
-        ensures { TakesSlotsBack (λ k. is_same_key key.now k) self.old self.new }
+        ensures held { documents_in self.new ≡ documents_in self.old }
+        ensures back { TakesSlotsBack key_cmp (λ k. is_same_key key.now k) self.old self.new }
+        ensures filled { AreHeld (λ k. is_same_key key.now k) self.new }
     {
         if self.is_empty_at(key) {
             let slot = self.map.remove(key);
@@ -134,7 +137,7 @@ impl Docs {
     }
 
     fn is_empty_at(&self, key: &StateKey) -> bool
-        ensures { result ≡ is_empty_at self.now key.now }
+        ensures { result ≡ is_empty_at key_cmp self.now key.now }
     {
         match self.map.get(key) {
             Some(slot) => slot.is_none(),
@@ -144,9 +147,9 @@ impl Docs {
 
     /// Takes a document in for which there is room, in place of the one under its key. It takes no memory.
     pub fn install(&mut self, key: StateKey, document: Document)
-        requires { HasSlotFor self.old key }
+        requires { HasSlot key_cmp self.old key }
         ensures held { documents_in self.new ≡ with_document key document (documents_in self.old) }
-        ensures slots { (k : SpecKey) → HasSlotFor self.old k → HasSlotFor self.new k }
+        ensures slots { KeepsSlots key_cmp self.old self.new }
     {
         if let Some(slot) = self.map.get_mut(&key) {
             *slot = Some(document);
@@ -156,8 +159,7 @@ impl Docs {
     /// Lets the document under a key go, where there is one. It takes no memory.
     pub fn remove(&mut self, key: &StateKey)
         ensures gone { documents_in self.new ≡ without_documents (key.now ∷ []) (documents_in self.old) }
-        ensures slots { (k : SpecKey) → is_same_key key.now k ≡ false
-            → HasSlotFor self.old k → HasSlotFor self.new k }
+        ensures slots { KeepsOthers key_cmp (λ k. is_same_key key.now k) self.old self.new }
     {
         let slot = self.map.remove(key);
         drop(slot);
@@ -165,7 +167,8 @@ impl Docs {
 
     /// Makes room for a change.
     pub fn ready_change(&mut self, change: &DocumentsChange) -> Result<(), Memory>
-        ensures made { MakesSlots (is_written change.now) self.old self.new }
+        ensures held { documents_in self.new ≡ documents_in self.old }
+        ensures made { MakesSlots key_cmp (is_written change.now) self.old self.new }
         ensures room { OnOk result (HasRoomForDocuments self.new change.now) }
     {
         match change {
@@ -176,7 +179,9 @@ impl Docs {
 
     /// Takes back the slot that was made for a change that doesn't come.
     pub fn release_change(&mut self, change: &DocumentsChange)
-        ensures { TakesSlotsBack (is_written change.now) self.old self.new }
+        ensures held { documents_in self.new ≡ documents_in self.old }
+        ensures back { TakesSlotsBack key_cmp (is_written change.now) self.old self.new }
+        ensures filled { AreHeld (is_written change.now) self.new }
     {
         match change {
             DocumentsChange::Written { key, document: _ } => self.release(key),

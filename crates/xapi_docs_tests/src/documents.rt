@@ -39,9 +39,9 @@ fn registration_in(word: &str) -> Option<Id> {
     }
 }
 
-// The word at that place of a row.
-fn word<'a>(words: &[&'a str], place: usize) -> Result<&'a str, Fail> {
-    match words.get(place) {
+// The word at that index of a row.
+fn word<'a>(words: &[&'a str], index: usize) -> Result<&'a str, Fail> {
+    match words.get(index) {
         Some(word) => Ok(*word),
         None => Err(Fail::from("a word is missing")),
     }

@@ -5,7 +5,7 @@ use xapi_docs::{MergeRefused, merge};
 
 // The old text, the new one, and what they make; an empty text where one of them is no object.
 const MERGED: [(&str, &str, &str); 17] = [
-    // places are kept, and new members come last
+    // the order is kept, and new members come last
     (
         r#"{"a":1,"b":2}"#,
         r#"{"c":3,"a":0.0}"#,
@@ -80,7 +80,7 @@ fn refuses_other_bytes(rt: HostRuntime) -> Result<(), Fail> {
     Ok(())
 }
 
-// What was merged is merged again, and each member keeps its place.
+// What was merged is merged again, and the order is kept.
 #[test]
 fn merges_again(rt: HostRuntime) -> Result<(), Fail> {
     let first = merge(rt.alloc(), br#"{"a":1}"#, br#"{"b":2}"#);

@@ -87,7 +87,7 @@ const COMMON: [(&str, &str, bool); 40] = [
         r#","result":{"extensions":{"http://e/1":"EC531277-b57b-4c15-8d91-d292c5b2b8f7"}}"#,
         false,
     ),
-    // an objectType that its place means anyway
+    // an objectType that its role means anyway
     (
         r#","context":{"instructor":{"objectType":"Agent","mbox":"mailto:i@j"}}"#,
         r#","context":{"instructor":{"mbox":"mailto:i@j"}}"#,

@@ -70,7 +70,7 @@ account_only account = refl
 seam_within : (xs ys : List ℕ) → length xs ≤ length (xs ++ ys)
 seam_within xs ys = rw (length-append xs ys) (omega arith)
 
--- the text that is made of both, with the place between them
+-- the text that is made of both, with the offset between them
 pub written_both : (a : Authority) (s m1 m2 m3 : List ℕ) (at : ℕ) → s ≡ [] → m1 ≡ s ++ agent_front a → at ≡ length m1 → m2 ≡ m1 ++ account_end a → m3 ≡ m2 → IsMemberText a m3 at
 written_both a s m1 m2 m3 at e0 e1 length_is e2 e3 =
     let front : m1 ≡ agent_front a = e1 ∙ ap (λ t. t ++ agent_front a) e0 in

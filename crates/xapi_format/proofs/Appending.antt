@@ -4,10 +4,7 @@ use Rattle.lrs_json.specs.Json.{Json, Members, member, object}
 use Rattle.lrs_json.specs.View.{members_of}
 use Rattle.lrs_json.specs.Written.{members_text, written}
 use Rattle.lrs_json.specs.Texts.{name_text, member_text}
-
--- one piece more
-pub behind : (start mid end a b : List ℕ) → mid ≡ start ++ a → end ≡ mid ++ b → end ≡ start ++ (a ++ b)
-behind start mid end a b e f = f ∙ ap (λ x. x ++ b) e ∙ append_assoc start a b
+use Rattle.lrs_json.proofs.Pieces.{behind}
 
 pub member_parts : (later : Bool) (name : List ℕ) (j : Json) → name_text later name ++ written j ≡ member_text later name j
 member_parts later name j = simp append_assoc
@@ -51,10 +48,6 @@ pub account_pieces : (n a b : List ℕ) (x y : Json) (s m1 m2 m3 : List ℕ) →
 account_pieces n a b x y s m1 m2 m3 e1 e2 e3 =
     let rest : List ℕ = member_text false a x ++ (member_text true b y ++ 125 ∷ 125 ∷ []) in
     behind s m1 m3 (name_text true n) (123 ∷ rest) e1 (behind m1 m2 m3 (123 ∷ []) rest e2 e3) ∙ ap (λ t. s ++ t) (sym (object_last n a b x y))
-
--- three pieces
-pub three_pieces : (a b c s m1 m2 m3 : List ℕ) → m1 ≡ s ++ a → m2 ≡ m1 ++ b → m3 ≡ m2 ++ c → m3 ≡ s ++ (a ++ (b ++ c))
-three_pieces a b c s m1 m2 m3 e1 e2 e3 = behind s m1 m3 a (b ++ c) e1 (behind m1 m2 m3 b c e2 e3)
 
 -- one member more of an object, of which others are left
 pub member_more : (name : List ℕ) (j : Json) (ms : Members) (later : Bool) (before after whole : List ℕ) → after ≡ before ++ member_text later name j → before ++ members_text later (member name j ms) ≡ whole → after ++ members_text true ms ≡ whole

@@ -34,14 +34,14 @@ plain_by_index (suc n) f h =
 plain_hex : (d : ℕ) → d < 16 → is_plain (hex_digit lower d) ≡ true
 plain_hex d small = agree_below_at (λ k. is_plain (hex_digit lower k)) (λ _. true) 16 d refl small
 
-plain_place : (hyphened : Bool) (d : ℕ) → d < 16 → is_plain (if hyphened then hyphen else hex_digit lower d) ≡ true
-plain_place true d small = refl
-plain_place false d small = plain_hex d small
+plain_either : (hyphened : Bool) (d : ℕ) → d < 16 → is_plain (if hyphened then hyphen else hex_digit lower d) ≡ true
+plain_either true d small = refl
+plain_either false d small = plain_hex d small
 
 pub plain_id : (id : List ℕ) → IsPlain (id_text id)
 plain_id id =
     plain_by_index 36 (λ k. if is_hyphen_place k then hyphen else hex_digit lower (nibble id (digit_place k)))
-    (λ k. plain_place (is_hyphen_place k) (nibble id (digit_place k)) (nibble_small id (digit_place k)))
+    (λ k. plain_either (is_hyphen_place k) (nibble id (digit_place k)) (nibble_small id (digit_place k)))
 
 -- ---- moments
 

@@ -58,7 +58,7 @@ agent_front authority =
 abbrev pub account_end : Authority → List ℕ
 account_end authority = members_text true (members_of ((codes "account", account_json (account_name authority)) ∷ []))
 
--- the text is the member `authority`, and its account begins at that place
+-- the text is the member `authority`, and its account begins at that offset
 pub record IsMemberText (authority : Authority) (text : List ℕ) (account : ℕ) : Type 0 where
   pub member : text ≡ member_text true (codes "authority") (authority_json authority)
   pub within : account ≤ length text

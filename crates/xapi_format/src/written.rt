@@ -109,9 +109,9 @@ fn length_of(text: &[u8]) -> usize
     text.len()
 }
 
-fn behind(text: &[u8], place: usize) -> &[u8]
-    requires { place ≤ length text.now }
-    ensures { result.now ≡ drop place text.now }
+fn behind(text: &[u8], offset: usize) -> &[u8]
+    requires { offset ≤ length text.now }
+    ensures { result.now ≡ drop offset text.now }
 {
-    &text[place..]
+    &text[offset..]
 }

@@ -48,7 +48,7 @@ add_each-new held xs = each_new held held xs (λ id is. is)
 
 -- ---- one after the other
 
-add_each-append : (held xs ys : List StoredStatement) → add_each held (xs ++ ys) ≡ add_each (add_each held xs) ys
+pub add_each-append : (held xs ys : List StoredStatement) → add_each held (xs ++ ys) ≡ add_each (add_each held xs) ys
 add_each-append held [] ys = refl
 add_each-append held (x ∷ xs) ys = add_each-append (add held x) xs ys
 

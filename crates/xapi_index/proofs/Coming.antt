@@ -1,5 +1,5 @@
 -- Whether a statement is held, by the first position under its id.
-use Rattle.std.proofs.Common.{◌≡◌, ℕ, List, refl, sym, ◌∙◌, ap, Option, Bool, true, false, not, is_some, slice_get}
+use Rattle.std.proofs.Common.{◌≡◌, ℕ, List, sym, ◌∙◌, ap, Option, is_some, slice_get}
 use Rattle.xapi_index.specs.Index.{ArePosted}
 use Rattle.xapi_postings.specs.XapiStatementStatements.{is_held}
 use Rattle.xapi_index.proofs.Found.{found_at}
@@ -17,11 +17,3 @@ held_told postings all id first are is =
     found_at (has_key (key.Statement id)) all first (is ∙ (ap (λ ks. slice_get ks 0) (are (key.Statement id)) ∙ sym (first-position (has_key (key.Statement id)) all)))
 
 -- ---- truth values
-
-pub not_true : (b : Bool) → not b ≡ true → b ≡ false
-not_true true is = sym is
-not_true false is = refl
-
-pub not_false : (b : Bool) → not b ≡ false → b ≡ true
-not_false true is = refl
-not_false false is = sym is

@@ -25,7 +25,7 @@ lt_yes k n lt = grind (arith, nat_tests)
 pub lt_no : (k n : ℕ) → n ≤ k → nat_lt k n ≡ false
 lt_no k n le = grind (arith, nat_tests)
 
-pub from_suc : {A : Type 0} (p : A → Bool) (i : ℕ) (xs : List A) → position_from p (suc i) xs ≡ option_map suc (position_from p i xs)
+from_suc : {A : Type 0} (p : A → Bool) (i : ℕ) (xs : List A) → position_from p (suc i) xs ≡ option_map suc (position_from p i xs)
 from_suc p i [] = refl
 from_suc p i (x ∷ xs) = by_test (p x) (from_suc p (i + 1) xs)
   where
@@ -34,18 +34,18 @@ from_suc p i (x ∷ xs) = by_test (p x) (from_suc p (i + 1) xs)
     by_test true more = refl
     by_test false more = ap (λ k. position_from p k xs) (omega arith) ∙ more
 
--- a place, where it lies among the first n
+-- an index, where it lies among the first n
 abbrev below : ℕ → ℕ → Option ℕ
 below n k = cond (nat_lt k n) (Some k) None
 
-place_from : {A : Type 0} (p : A → Bool) (n : ℕ) (xs : List A) → position_from p 0 (take n xs) ≡ option_and_then (below n) (position_from p 0 xs)
-place_from p zero xs = none (position_from p 0 xs)
+index_from : {A : Type 0} (p : A → Bool) (n : ℕ) (xs : List A) → position_from p 0 (take n xs) ≡ option_and_then (below n) (position_from p 0 xs)
+index_from p zero xs = none (position_from p 0 xs)
   where
     none : (o : Option ℕ) → ◌≡◌ {A = Option ℕ} None (option_and_then (below 0) o)
     none None = refl
     none (Some k) = sym (ap (λ b. cond b (Some k) None) (lt-none k))
-place_from p (suc n) [] = refl
-place_from p (suc n) (x ∷ xs) = by_test (p x) (place_from p n xs)
+index_from p (suc n) [] = refl
+index_from p (suc n) (x ∷ xs) = by_test (p x) (index_from p n xs)
   where
     next : (k : ℕ) (b : Bool) → nat_lt k n ≡ b → option_map suc (cond b (Some k) None) ≡ cond b (Some (suc k)) None
     next k true is = refl
@@ -61,18 +61,18 @@ place_from p (suc n) (x ∷ xs) = by_test (p x) (place_from p n xs)
     by_test false more =
         from_suc p 0 (take n xs) ∙ (ap (λ o. option_map suc o) more ∙ (one (position_from p 0 xs) ∙ ap (λ o. option_and_then (below (suc n)) o) (sym (from_suc p 0 xs))))
 
-place_in : {A : Type 0} (p : A → Bool) (n : ℕ) (xs : List A) → position p (take n xs) ≡ option_and_then (below n) (position p xs)
-place_in p n xs = position_from-zero p (take n xs) ∙ (place_from p n xs ∙ ap (λ o. option_and_then (below n) o) (sym (position_from-zero p xs)))
+index_in : {A : Type 0} (p : A → Bool) (n : ℕ) (xs : List A) → position p (take n xs) ≡ option_and_then (below n) (position p xs)
+index_in p n xs = position_from-zero p (take n xs) ∙ (index_from p n xs ∙ ap (λ o. option_and_then (below n) o) (sym (position_from-zero p xs)))
 
--- the place of the first item that passes among the first n is the first place, where that lies among them
-pub place_first : {A : Type 0} (p : A → Bool) (n : ℕ) (xs : List A) (o : Option ℕ) (k : ℕ) → o ≡ Some k → o ≡ position p xs → nat_lt k n ≡ true → Some k ≡ position p (take n xs)
-place_first p n xs o k at is within = sym (place_in p n xs ∙ (ap (λ q. option_and_then (below n) q) (sym is ∙ at) ∙ ap (λ b. cond b (Some k) None) within))
+-- the index of the first item that passes among the first n is the first index, where that lies among them
+pub index_first : {A : Type 0} (p : A → Bool) (n : ℕ) (xs : List A) (o : Option ℕ) (k : ℕ) → o ≡ Some k → o ≡ position p xs → nat_lt k n ≡ true → Some k ≡ position p (take n xs)
+index_first p n xs o k at is within = sym (index_in p n xs ∙ (ap (λ q. option_and_then (below n) q) (sym is ∙ at) ∙ ap (λ b. cond b (Some k) None) within))
 
-pub place_past : {A : Type 0} (p : A → Bool) (n : ℕ) (xs : List A) (o : Option ℕ) (k : ℕ) → o ≡ Some k → o ≡ position p xs → nat_lt k n ≡ false → None ≡ position p (take n xs)
-place_past p n xs o k at is past = sym (place_in p n xs ∙ (ap (λ q. option_and_then (below n) q) (sym is ∙ at) ∙ ap (λ b. cond b (Some k) None) past))
+pub index_past : {A : Type 0} (p : A → Bool) (n : ℕ) (xs : List A) (o : Option ℕ) (k : ℕ) → o ≡ Some k → o ≡ position p xs → nat_lt k n ≡ false → None ≡ position p (take n xs)
+index_past p n xs o k at is past = sym (index_in p n xs ∙ (ap (λ q. option_and_then (below n) q) (sym is ∙ at) ∙ ap (λ b. cond b (Some k) None) past))
 
-pub place_nowhere : {A : Type 0} (p : A → Bool) (n : ℕ) (xs : List A) (o : Option ℕ) → o ≡ None → o ≡ position p xs → None ≡ position p (take n xs)
-place_nowhere p n xs o at is = sym (place_in p n xs ∙ ap (λ q. option_and_then (below n) q) (sym is ∙ at))
+pub index_nowhere : {A : Type 0} (p : A → Bool) (n : ℕ) (xs : List A) (o : Option ℕ) → o ≡ None → o ≡ position p xs → None ≡ position p (take n xs)
+index_nowhere p n xs o at is = sym (index_in p n xs ∙ ap (λ q. option_and_then (below n) q) (sym is ∙ at))
 
 -- ---- whether one passes
 
@@ -84,8 +84,8 @@ any_from p i (x ∷ xs) = by_test (p x) (any_from p (i + 1) xs)
     by_test true more = refl
     by_test false more = more
 
-pub any_place : {A : Type 0} (p : A → Bool) (xs : List A) (o : Option ℕ) → o ≡ position p xs → is_some o ≡ list_any p xs
-any_place p xs o is = ap (λ q. is_some q) (is ∙ position_from-zero p xs) ∙ sym (any_from p 0 xs)
+pub any_index : {A : Type 0} (p : A → Bool) (xs : List A) (o : Option ℕ) → o ≡ position p xs → is_some o ≡ list_any p xs
+any_index p xs o is = ap (λ q. is_some q) (is ∙ position_from-zero p xs) ∙ sym (any_from p 0 xs)
 
 some_first : {A : Type 0} (p : A → Bool) (n : ℕ) (xs : List A) → list_any p (take n xs) ≡ option_map_or (λ k. nat_lt k n) (position_from p 0 xs) false
 some_first p zero xs = none (position_from p 0 xs)
@@ -105,11 +105,11 @@ some_first p (suc n) (x ∷ xs) = by_test (p x) (some_first p n xs)
     by_test true more = sym (lt-first n)
     by_test false more = more ∙ (one (position_from p 0 xs) ∙ ap (λ o. option_map_or (λ k. nat_lt k (suc n)) o false) (sym (from_suc p 0 xs)))
 
--- one of the first n passes exactly where the first place lies among them
+-- one of the first n passes exactly where the first index lies among them
 pub any_first : {A : Type 0} (p : A → Bool) (n : ℕ) (xs : List A) (o : Option ℕ) → o ≡ position p xs → option_map_or (λ k. nat_lt k n) o false ≡ list_any p (take n xs)
 any_first p n xs o is = ap (λ q. option_map_or (λ k. nat_lt k n) q false) (is ∙ position_from-zero p xs) ∙ sym (some_first p n xs)
 
--- ---- by place
+-- ---- by index
 
 pub get_first : {A : Type 0} (n : ℕ) (xs : List A) (k : ℕ) → k < n → slice_get (take n xs) k ≡ slice_get xs k
 get_first zero xs k lt = absurd (omega arith)

@@ -1,33 +1,11 @@
--- The first item that passes and its place, and the first number of a list of places.
-use Rattle.std.proofs.Common.{◌≡◌, ◌<◌, ◌≤◌, ◌+◌, suc, ℕ, List, [], ◌∷◌, refl, sym, ◌∙◌, ap, arith, Option, Some, None, Bool, true, false, cond, slice_get}
-use Rattle.std.specs.Prelude.{option_and_then, option_map, position, find, is_some}
+-- Whether an item passes, by its index, and the first number of a list of indices.
+use Rattle.std.proofs.Common.{◌≡◌, ◌<◌, ◌≤◌, ◌+◌, ℕ, List, [], ◌∷◌, refl, sym, ◌∙◌, ap, arith, Option, Some, None, Bool, true, false, cond, slice_get}
+use Rattle.std.specs.Prelude.{position, find, is_some}
 use Rattle.std.specs.List.{AllByRecursion, position_from}
 use Rattle.std.proofs.lemmas.Iterator.Adapters.{position_from-zero}
 use Rattle.std.proofs.lemmas.Option.{none-some, same_Some}
-use Rattle.xapi_index.proofs.Firsts.{from_suc, lt_no, lt_yes}
+use Rattle.xapi_index.proofs.Firsts.{lt_no, lt_yes}
 use Rattle.xapi_postings.specs.Ascending.{IsAscending, below}
-
--- ---- by place
-
-item_from : {A : Type 0} (p : A → Bool) (xs : List A) → option_and_then (λ k. slice_get xs k) (position_from p 0 xs) ≡ find p xs
-item_from p [] = refl
-item_from p (x ∷ xs) = by_test (p x) (item_from p xs)
-  where
-    behind : (o : Option ℕ) → option_and_then (λ k. slice_get (x ∷ xs) k) (option_map suc o) ≡ option_and_then (λ k. slice_get xs k) o
-    behind None = refl
-    behind (Some k) = refl
-
-    by_test : (b : Bool) → option_and_then (λ k. slice_get xs k) (position_from p 0 xs) ≡ find p xs
-        → option_and_then (λ k. slice_get (x ∷ xs) k) (cond b (Some 0) (position_from p 1 xs)) ≡ cond b (Some x) (find p xs)
-    by_test true more = refl
-    by_test false more = ap (λ o. option_and_then (λ k. slice_get (x ∷ xs) k) o) (from_suc p 0 xs) ∙ (behind (position_from p 0 xs) ∙ more)
-
--- what stands at the place of the first item that passes, and that there is none
-pub item_at : {A : Type 0} (p : A → Bool) (xs : List A) (o : Option ℕ) (k : ℕ) → o ≡ Some k → o ≡ position p xs → slice_get xs k ≡ find p xs
-item_at p xs o k at place = ap (λ q. option_and_then (λ i. slice_get xs i) q) (sym at ∙ (place ∙ position_from-zero p xs)) ∙ item_from p xs
-
-pub item_none : {A : Type 0} (p : A → Bool) (xs : List A) (o : Option ℕ) → o ≡ None → o ≡ position p xs → None ≡ find p xs
-item_none p xs o none place = ap (λ q. option_and_then (λ i. slice_get xs i) q) (sym none ∙ (place ∙ position_from-zero p xs)) ∙ item_from p xs
 
 -- ---- found or not
 
@@ -39,11 +17,11 @@ found_from p i (x ∷ xs) = by_test (p x) (found_from p (i + 1) xs)
     by_test true more = refl
     by_test false more = more
 
--- something is found exactly where it has a place
+-- something is found exactly where it has an index
 pub found_at : {A : Type 0} (p : A → Bool) (xs : List A) (o : Option ℕ) → o ≡ position p xs → is_some o ≡ is_some (find p xs)
 found_at p xs o is = ap (λ q. is_some q) (is ∙ position_from-zero p xs) ∙ found_from p 0 xs
 
--- ---- the first of a list of places that is below a bound
+-- ---- the first of a list of indices that is below a bound
 
 -- what holds of each holds of each still
 pub each_still : {A : Type 0} (P Q : A → Type 0) → ((x : A) → P x → Q x) → (xs : List A) → AllByRecursion P xs → AllByRecursion Q xs

@@ -1,5 +1,5 @@
 -- Statements of which none is older than one before it: one more, and those that were stored later than an instant.
-use Rattle.std.proofs.Common.{◌≡◌, ◌⊎◌, ◌-◌, ◌*◌, ◌<◌, ◌≤◌, ℕ, zero, suc, ℤ, pos, negsuc, List, [], ◌∷◌, ◌++◌, length, get_or, min, refl, sym, ◌∙◌, ap, subst, arith, inl, inr, true≢false, Some, None, Bool, true, false, not, ◌&&◌, int_lt, nat_le, nat_lt, slice_get, leb-true, ltb-false, ltb-true}
+use Rattle.std.proofs.Common.{◌≡◌, ◌⊎◌, ◌-◌, ◌*◌, ◌<◌, ◌≤◌, ℕ, zero, suc, ℤ, pos, negsuc, List, [], ◌∷◌, ◌++◌, length, get_or, min, refl, sym, ◌∙◌, ap, subst, arith, inl, inr, true≢false, Some, None, Bool, true, false, not, int_lt, nat_le, nat_lt, slice_get, leb-true, ltb-false, ltb-true}
 use Rattle.std.specs.List.Sorted.{IsPartitionedBy, IsPartitionPoint}
 use Rattle.std.specs.Option.{option_map_or}
 use Rattle.std.proofs.lemmas.Bool.Decides.{nat_tests}
@@ -39,21 +39,13 @@ above_all held s up behind i a at = by_last (slice_get_cases held (length held -
     by_last (inr w) = absurd (omega (arith, inside, w.0))
 
 pub rising_more : (held : List StoredStatement) (s : StoredStatement) → IsRising held → stands_behind held s ≡ true → IsRising (held ++ s ∷ [])
-rising_more held s up behind = λ i j a b le at_i at_j. by_places i j a b le (got_push held s a i at_i) (got_push held s b j at_j)
+rising_more held s up behind = λ i j a b le at_i at_j. by_indices i j a b le (got_push held s a i at_i) (got_push held s b j at_j)
   where
-    by_places : (i j : ℕ) (a b : StoredStatement) → i ≤ j → (slice_get held i ≡ Some a) ⊎ ((i ≡ length held) × (s ≡ a)) → (slice_get held j ≡ Some b) ⊎ ((j ≡ length held) × (s ≡ b)) → a.stored ≤ b.stored
-    by_places i j a b le (inl at_i) (inl at_j) = up i j a b le at_i at_j
-    by_places i j a b le (inl at_i) (inr at_j) = subst (λ (x : StoredStatement). a.stored ≤ x.stored) at_j.1 (above_all held s up behind i a at_i)
-    by_places i j a b le (inr at_i) (inl at_j) = absurd (omega (arith, at_i.0, slice_get_within held j b at_j))
-    by_places i j a b le (inr at_i) (inr at_j) = omega (arith, ap (λ (x : StoredStatement). x.stored) (sym at_i.1 ∙ at_j.1))
-
-pub left_true : (a b : Bool) → (a && b) ≡ true → a ≡ true
-left_true true b is = refl
-left_true false b is = is
-
-pub right_true : (a b : Bool) → (a && b) ≡ true → b ≡ true
-right_true true b is = is
-right_true false b is = absurd (true≢false (sym is))
+    by_indices : (i j : ℕ) (a b : StoredStatement) → i ≤ j → (slice_get held i ≡ Some a) ⊎ ((i ≡ length held) × (s ≡ a)) → (slice_get held j ≡ Some b) ⊎ ((j ≡ length held) × (s ≡ b)) → a.stored ≤ b.stored
+    by_indices i j a b le (inl at_i) (inl at_j) = up i j a b le at_i at_j
+    by_indices i j a b le (inl at_i) (inr at_j) = subst (λ (x : StoredStatement). a.stored ≤ x.stored) at_j.1 (above_all held s up behind i a at_i)
+    by_indices i j a b le (inr at_i) (inl at_j) = absurd (omega (arith, at_i.0, slice_get_within held j b at_j))
+    by_indices i j a b le (inr at_i) (inr at_j) = omega (arith, ap (λ (x : StoredStatement). x.stored) (sym at_i.1 ∙ at_j.1))
 
 -- ---- what was stored later
 
@@ -93,15 +85,15 @@ later_false false is = refl
 -- where those that weren't stored later come first
 pub later_from : (held : List StoredStatement) (t : ℤ) (first n : ℕ) → IsPartitionPoint (λ (s : StoredStatement). is_until t s ≡ true) (λ (s : StoredStatement). is_until t s ≡ false) held first
     → AreLaterFrom held n t (min first n)
-later_from held t first n parted = (omega arith, λ k s less at. by_place k s less at (nat_lt k first) refl)
+later_from held t first n parted = (omega arith, λ k s less at. by_index k s less at (nat_lt k first) refl)
   where
-    by_place : (k : ℕ) (s : StoredStatement) → k < n → slice_get held k ≡ Some s → (b : Bool) → nat_lt k first ≡ b → nat_le (min first n) k ≡ int_lt t (stored_instant s)
-    by_place k s less at true before =
+    by_index : (k : ℕ) (s : StoredStatement) → k < n → slice_get held k ≡ Some s → (b : Bool) → nat_lt k first ≡ b → nat_le (min first n) k ≡ int_lt t (stored_instant s)
+    by_index k s less at true before =
         let under : k < first = ltb-true k first before in
         let past : k < min first n = omega arith in
         le_no (min first n) k past
         ∙ later_false (int_lt t (stored_instant s)) (subst (λ (x : StoredStatement). is_until t x ≡ true) (get_or_from_slice_get held k s s at) (parted.0 k s (omega arith) under))
-    by_place k s less at false behind =
+    by_index k s less at false behind =
         let from : first ≤ k = ltb-false k first behind in
         let over : min first n ≤ k = omega arith in
         le_yes (min first n) k over

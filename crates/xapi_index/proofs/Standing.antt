@@ -13,14 +13,10 @@ use Rattle.xapi_index.proofs.Found.{each_still}
 use Rattle.xapi_index.proofs.Keyed.{coming_push}
 use Rattle.xapi_postings.specs.Ascending.{below, positions_with}
 use Rattle.xapi_postings.specs.Postings.{SamePostings, posted, posting_of}
-use Rattle.xapi_postings.proofs.Ascending.{ascending-append, positions-append, positions-ascending, positions-below, positions-bounded}
+use Rattle.xapi_postings.proofs.Ascending.{all-append, ascending-append, positions-append, positions-ascending, positions-below, positions-bounded}
 use Rattle.xapi_postings.specs.XapiStatementStored.{StoredStatement}
 use Rattle.xapi_postings.specs.XapiStatementKeysKeys.{has_key, is_among}
 use Rattle.xapi_postings.specs.XapiStatementKeysKeyKey.{Key}
-
-each_push : {A : Type 0} (P : A → Type 0) (xs : List A) (y : A) → AllByRecursion P xs → P y → AllByRecursion P (xs ++ y ∷ [])
-each_push P [] y each is = (is, tt)
-each_push P (x ∷ xs) y each is = (each.0, each_push P xs y each.1 is)
 
 -- ---- one posting
 
@@ -37,7 +33,7 @@ posting_more held n key ks position at is = record {
   visible = filter-append (λ k. nat_lt k (length held)) ks (position ∷ [])
       ∙ (ap (λ b. below (length held) ks ++ cond b (position ∷ []) []) (lt_no position (length held) (omega arith)) ∙ (append-nil (below (length held) ks) ∙ is.visible));
   ascending = ascending-append ks position is.ascending (each_still (λ k. k < length held + n) (λ k. k < position) (λ k less. omega arith) ks is.bounded);
-  bounded = each_push (λ k. k < length held + (n + 1)) ks position (each_still (λ k. k < length held + n) (λ k. k < length held + (n + 1)) (λ k less. omega arith) ks is.bounded) (omega arith);
+  bounded = all-append (λ k. k < length held + (n + 1)) ks position (each_still (λ k. k < length held + n) (λ k. k < length held + (n + 1)) (λ k less. omega arith) ks is.bounded) (omega arith);
 }
 
 -- ---- those that are held, and others behind them

@@ -1,5 +1,6 @@
 -- What is seen of the statements in memory, and when statements that are to come are ready.
-use Rattle.std.specs.Prelude.{◌≡◌, ◌≤◌, ◌+◌, ◌<◌, ◌++◌, ℕ, Bool, true, false, List, [], length, map, slice_get, Some}
+use Rattle.std.specs.Prelude.{◌≡◌, ◌≤◌, ◌+◌, ◌<◌, ◌++◌, ℕ, Bool, true}
+use Rattle.std.specs.Prelude.{false, List, [], filter_map, length, map, slice_get, Some}
 use Rattle.std.specs.List.{AllByRecursion, list_any}
 use Rattle.xapi_postings.specs.XapiStatementStatements.{add_each}
 use Rattle.xapi_postings.specs.Ascending.{IsAscending, below, positions_with}
@@ -62,3 +63,7 @@ pub record IsIndexReadyFor (index : Indexed) (statements : List StoredStatement)
   pub posted : ArePosted (add_each index.held statements) index.postings
   pub spare : length statements ≤ index.spare
   pub ahead : add_each index.held statements ≡ index.held ++ index.ahead
+
+-- the statements at these positions, where there are some
+abbrev pub statements_at : List StoredStatement → List ℕ → List StoredStatement
+statements_at statements positions = filter_map (λ position. slice_get statements position) positions

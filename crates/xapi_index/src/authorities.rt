@@ -7,7 +7,7 @@ use std::collections::BTreeMap;
 use std::marker::Model;
 use xapi_postings::xapi_statement::{Authority, SharedAuthority};
 
-/// Authorities under which statements came, at each place the last one, so that those that come share them.
+/// Authorities under which statements came, in each bucket the last one, so that those that come share them.
 #[derive(Drop)]
 pub(crate) struct Authorities {
     alloc: Global,
@@ -30,21 +30,21 @@ impl Authorities {
         }
     }
 
-    /// The authority, for one more statement: the one that is kept at its place, or a copy, which is kept there from
+    /// The authority, for one more statement: the one that is kept in its bucket, or a copy, which is kept there from
     /// now on.
     pub fn shared(&mut self, authority: &Authority) -> Result<SharedAuthority, Memory>
         ensures { IfOk result (λ shared. shared ≡ authority.now) }
     {
-        let place = place_of(authority);
-        match known(&self.kept, place, authority) {
+        let bucket = bucket_of(authority);
+        match known(&self.kept, bucket, authority) {
             Some(found) => found.again(),
-            None => add(self.alloc, &mut self.kept, place, authority),
+            None => add(self.alloc, &mut self.kept, bucket, authority),
         }
     }
 }
 
-// Few authorities have the same place, so most find their own there.
-fn place_of(authority: &Authority) -> u8 {
+// Few authorities have the same bucket, so most find their own there.
+fn bucket_of(authority: &Authority) -> u8 {
     match authority {
         Authority::Admin => 0,
         Authority::Desk => 1,
@@ -58,12 +58,12 @@ fn place_of(authority: &Authority) -> u8 {
 
 fn known<'a>(
     kept: &'a BTreeMap<u8, SharedAuthority>,
-    place: u8,
+    bucket: u8,
     authority: &Authority,
 ) -> Option<&'a SharedAuthority>
     ensures { IfSome result (λ known. known.now ≡ authority.now) }
 {
-    match kept.get(&place) {
+    match kept.get(&bucket) {
         Some(other) => if_same(other, authority),
         None => None,
     }
@@ -82,14 +82,14 @@ fn if_same<'a>(other: &'a SharedAuthority, authority: &Authority) -> Option<&'a 
 fn add(
     alloc: Global,
     kept: &mut BTreeMap<u8, SharedAuthority>,
-    place: u8,
+    bucket: u8,
     authority: &Authority,
 ) -> Result<SharedAuthority, Memory>
     ensures { IfOk result (λ shared. shared ≡ authority.now) }
 {
     let own = authority.copy()?;
     let shared = SharedAuthority::of(alloc, own)?;
-    let before = kept.insert(place, shared.again()?)?;
+    let before = kept.insert(bucket, shared.again()?)?;
     drop(before);
     Ok(shared)
 }

@@ -16,7 +16,7 @@ use Rattle.xapi_search.specs.XapiQueryFilters.{direct, in_time, sees}
 use Rattle.xapi_search.specs.XapiQueryQueryQuery.{Query}
 use Rattle.xapi_search.specs.XapiQuerySightSight.{Sight}
 use Rattle.xapi_search.specs.Candidates.{Bounds, Reaches, is_candidate, stands_in}
-use Rattle.xapi_search.specs.Sought.{AreDirect, Tells, is_seen, passes}
+use Rattle.xapi_search.specs.Sought.{AreDirect, TellsSought, is_seen, passes}
 use Rattle.xapi_search.specs.declared.candidates.Candidates.{Candidates}
 use Rattle.xapi_search.specs.declared.candidates.Lists.{Lists}
 use Rattle.xapi_search.specs.declared.sought.Sought.{Sought}
@@ -43,7 +43,7 @@ if_none (Some x) more is = tt
 
 -- ---- between candidates
 
-module _ (query : Query) (sight : Sight) (sought : Sought) (held : List StoredStatement) (n : ℕ) (c : Candidates) (tells : Tells query sight held sought) (covers : Covers query sought held n c) (b : ℕ → Bool) where
+module _ (query : Query) (sight : Sight) (sought : Sought) (held : List StoredStatement) (n : ℕ) (c : Candidates) (tells : TellsSought query sight held sought) (covers : Covers query sought held n c) (b : ℕ → Bool) where
   left_out : (i k : ℕ) → is_candidate c k ≡ false → slice_get (positions_of query.ascending n) i ≡ Some k → b k && is_listed_at query sight (take n held) k ≡ false
   left_out i k none at =
       and_right (b k) (is_listed_at query sight (take n held) k) (covers sight tells k (position_within query.ascending n i k at) none)
@@ -79,7 +79,7 @@ parts true true false meets is = cc is
 parts true false kept meets is = cc is
 parts false timely kept meets is = cc is
 
-module _ (query : Query) (sight : Sight) (sought : Sought) (held : List StoredStatement) (n : ℕ) (le : n ≤ length held) (tells : Tells query sight held sought) where
+module _ (query : Query) (sight : Sight) (sought : Sought) (held : List StoredStatement) (n : ℕ) (le : n ≤ length held) (tells : TellsSought query sight held sought) where
   -- of the statement that stands at a position
   listed_here : (k : ℕ) (s : StoredStatement) → k < n → slice_get held k ≡ Some s
       → is_listed_at query sight (take n held) k ≡ sees sight s && in_time query s && not (is_voided (take n held) s) && chain_passes sought (take n held) k

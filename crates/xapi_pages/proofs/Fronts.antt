@@ -7,7 +7,7 @@ use Rattle.std.proofs.lemmas.Bool.Decides.{nat_tests}
 use Rattle.std.proofs.lemmas.Grind.{common_steps}
 use Rattle.std.proofs.lemmas.List.{get_or-reverse, length-reverse, take_all}
 use Rattle.std.proofs.lemmas.List.FromFn.{get_or-range_with_len, length-range_with_len}
-use Rattle.std.proofs.lemmas.Option.{get_or_from_slice_get, slice_get-get_or, slice_get_within}
+use Rattle.std.proofs.lemmas.Option.{get_or_from_slice_get, same_Some, slice_get-get_or, slice_get_within}
 use Rattle.xapi_pages.specs.Listings.{Page, first_page, last_of, positions_of}
 
 -- ---- positions
@@ -33,15 +33,12 @@ length-positions false n = length-reverse (range_with_len 0 n) ∙ length-range_
 pub within : (ascending : Bool) (n i k : ℕ) → slice_get (positions_of ascending n) i ≡ Some k → i < n
 within ascending n i k is = subst (λ m. i < m) (length-positions ascending n) (slice_get_within (positions_of ascending n) i k is)
 
-some_same : (a b : ℕ) → Some a ≡ Some b → a ≡ b
-some_same a b is = cc is
-
 -- which position stands at an index
 pub is_up : (n i k : ℕ) → slice_get (positions_of true n) i ≡ Some k → k ≡ i
-is_up n i k at = some_same k i (sym at ∙ position_up n i (within true n i k at))
+is_up n i k at = same_Some k i (sym at ∙ position_up n i (within true n i k at))
 
 pub is_down : (n i k : ℕ) → slice_get (positions_of false n) i ≡ Some k → k ≡ n - 1 - i
-is_down n i k at = some_same k (n - 1 - i) (sym at ∙ position_down n i (within false n i k at))
+is_down n i k at = same_Some k (n - 1 - i) (sym at ∙ position_down n i (within false n i k at))
 
 -- it is one of them
 pub position_within : (ascending : Bool) (n i k : ℕ) → slice_get (positions_of ascending n) i ≡ Some k → k < n
@@ -99,12 +96,12 @@ given_no b l x xs is = by_tests (b x) (l x) refl refl is
     by_tests false true at_b at_l both = ap (λ ys. filter b ys) (ap (λ u. cond u (x ∷ filter l xs) (filter l xs)) at_l) ∙ ap (λ t. cond t (x ∷ filter b (filter l xs)) (filter b (filter l xs))) at_b
     by_tests true true at_b at_l both = cc both
 
--- at the place of one that both let pass
+-- at the index of one that both let pass
 pub next_given : {A : Type 0} (b l : A → Bool) (xs : List A) (i : ℕ) (x : A) → slice_get xs i ≡ Some x → b x && l x ≡ true
     → filter b (filter l (drop i xs)) ≡ x ∷ filter b (filter l (drop (i + 1) xs))
 next_given b l xs i x at is = ap (λ ks. filter b (filter l ks)) (drop_at xs i x at) ∙ given_yes b l x (drop (i + 1) xs) is
 
--- at the place of one that isn't let pass
+-- at the index of one that isn't let pass
 pub next_left_out : {A : Type 0} (b l : A → Bool) (xs : List A) (i : ℕ) (x : A) → slice_get xs i ≡ Some x → b x && l x ≡ false
     → filter b (filter l (drop i xs)) ≡ filter b (filter l (drop (i + 1) xs))
 next_left_out b l xs i x at is = ap (λ ks. filter b (filter l ks)) (drop_at xs i x at) ∙ given_no b l x (drop (i + 1) xs) is

@@ -36,7 +36,7 @@ pub down_skips : (c : Candidates) (n start bound position index : ℕ) → bound
 down_skips c n start bound position index is last here = λ i k from before at.
     let same = is_down n i k at in
     let lt = within false n i k at in
-    let place = is_down n position index here in
+    let down = is_down n position index here in
     let inside = within false n position index here in
     let less = ltb-true i index before in
     last.no_other k (omega arith) (lt-ltb position k (omega arith))

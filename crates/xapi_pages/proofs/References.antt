@@ -1,18 +1,17 @@
 -- Chains of references by the positions of statements: what holds of whether one passes.
-use Rattle.std.proofs.Common.{◌≡◌, ◌<◌, ◌≤◌, ◌&&◌, ◌||◌, ℕ, zero, suc, List, [], ◌∷◌, length, take, refl, sym, ◌∙◌, ap, subst, arith, Option, Some, None, Bool, true, false, cond, find, nat_lt, slice_get}
+use Rattle.std.proofs.Common.{◌≡◌, ◌<◌, ◌≤◌, ◌&&◌, ◌||◌, ℕ, zero, suc, List, [], ◌∷◌, length, take, refl, sym, ◌∙◌, ap, subst, arith, Option, Some, None, Bool, true, false, cond, nat_lt, slice_get}
 use Rattle.std.specs.Prelude.{option_and_then, position}
 use Rattle.std.specs.List.{list_any, position_or_len}
 use Rattle.std.specs.Option.{option_map_or}
 use Rattle.std.specs.Str.{bytes_eq}
 use Rattle.std.proofs.lemmas.Grind.{common_steps}
 use Rattle.std.proofs.lemmas.List.{length-take-le}
-use Rattle.std.proofs.lemmas.List.Folds.{find_at}
-use Rattle.std.proofs.lemmas.Option.{slice_get_past}
 use Rattle.lrs_json.specs.View.{view}
+use Rattle.lrs_register.proofs.Firsts.{position-item}
 use Rattle.xapi_search.specs.XapiQueryFilters.{direct, sees}
 use Rattle.xapi_search.specs.XapiQueryQueryQuery.{Query}
 use Rattle.xapi_search.specs.XapiQuerySightSight.{Sight}
-use Rattle.xapi_search.specs.Sought.{Tells, passes}
+use Rattle.xapi_search.specs.Sought.{TellsSought, passes}
 use Rattle.xapi_search.specs.declared.sought.Sought.{Sought}
 use Rattle.xapi_search.specs.XapiStatementStored.{StoredStatement}
 use Rattle.xapi_search.specs.XapiStatementStatement.{target_of}
@@ -48,17 +47,6 @@ position-below q xs j is = by_test (nat_lt (position_or_len q xs) (length xs)) r
     by_test : (b : Bool) → nat_lt (position_or_len q xs) (length xs) ≡ b → cond b (Some (position_or_len q xs)) None ≡ Some j → j < length xs
     by_test true lt at = let same : position_or_len q xs ≡ j = cc at in subst (λ k. k < length xs) same (below lt)
     by_test false lt at = cc at
-
--- what stands at the first index that passes is the first item that does
-position-item : {A : Type 0} (q : A → Bool) (xs : List A) → option_and_then (λ k. slice_get xs k) (position q xs) ≡ find q xs
-position-item q xs = by_test (nat_lt (position_or_len q xs) (length xs)) refl
-  where
-    past : nat_lt (position_or_len q xs) (length xs) ≡ false → length xs ≤ position_or_len q xs
-    past is = grind (arith, common_steps)
-
-    by_test : (b : Bool) → nat_lt (position_or_len q xs) (length xs) ≡ b → option_and_then (λ k. slice_get xs k) (cond b (Some (position_or_len q xs)) None) ≡ find q xs
-    by_test true is = sym (find_at q xs)
-    by_test false is = sym (find_at q xs ∙ slice_get_past xs (position_or_len q xs) (past is))
 
 -- ---- references
 
@@ -132,7 +120,7 @@ passing_first sought held n le =
 
 -- ---- what the lists tell
 
-module _ (query : Query) (sight : Sight) (sought : Sought) (held : List StoredStatement) (n : ℕ) (le : n ≤ length held) (tells : Tells query sight held sought) where
+module _ (query : Query) (sight : Sight) (sought : Sought) (held : List StoredStatement) (n : ℕ) (le : n ≤ length held) (tells : TellsSought query sight held sought) where
   told : (k : ℕ) → k < n → is_direct_at sought k ≡ is_met_at query sight (take n held) k
   told k lt = by_there (there held k (omega (arith, le, lt)))
     where

@@ -41,8 +41,8 @@ not_among path x w is = by_test (is_among path w) refl
 -- ---- marks
 
 -- a position is the one that a map compares with
-same_place : (a b : ℕ) → is_at (nat_cmp a) b ≡ (b == a)
-same_place a b = by_order (cases_order a b)
+same_position : (a b : ℕ) → is_at (nat_cmp a) b ≡ (b == a)
+same_position a b = by_order (cases_order a b)
   where
     by_order : (a ≡ b) ⊎ ((a < b) ⊎ (b < a)) → is_eq (nat_cmp a b) ≡ (b == a)
     by_order (inl same) =
@@ -58,7 +58,7 @@ same_place a b = by_order (cases_order a b)
 pub marked_anew : (old new : List (ℕ × Mark)) (position : ℕ) (mark : Mark) → ((q : ℕ) → lookup (is_at (nat_cmp q)) new ≡ cond (is_at (nat_cmp position) q) (Some mark) (lookup (is_at (nat_cmp q)) old)) → IsMarked old position mark new
 marked_anew old new position mark updates = λ k.
     ap (λ o. unwrap_or o Unknown) (updates k)
-    ∙ (here_or_there k (is_at (nat_cmp position) k) ∙ ap (λ b. if b then mark else mark_at old k) (same_place position k))
+    ∙ (here_or_there k (is_at (nat_cmp position) k) ∙ ap (λ b. if b then mark else mark_at old k) (same_position position k))
   where
     here_or_there : (k : ℕ) (b : Bool) → unwrap_or (cond b (Some mark) (lookup (is_at (nat_cmp k)) old)) Unknown ≡ (if b then mark else mark_at old k)
     here_or_there k true = refl

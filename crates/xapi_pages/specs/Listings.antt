@@ -1,7 +1,7 @@
 -- The statements that a query asks for, in their order, and the pages in which they are given (xAPI 1.0.3, part three,
 -- section 2.1.3).
 use Rattle.std.specs.Prelude.{ℕ, zero, suc, ◌-◌, ◌&&◌, nat_lt, Bool, true, false, not, List, [], ◌∷◌, map, filter}
-use Rattle.std.specs.Prelude.{filter_map, length, reverse, slice_get, take, Option, Some, None, option_and_then, codes}
+use Rattle.std.specs.Prelude.{length, reverse, slice_get, take, Option, Some, None, option_and_then, codes}
 use Rattle.std.specs.Prelude.{if◌then◌else◌}
 use Rattle.std.specs.List.{list_any, range_with_len}
 use Rattle.std.specs.Option.{option_map_or}
@@ -20,6 +20,7 @@ use Rattle.xapi_search.specs.XapiStatementStatement.{target_of}
 use Rattle.xapi_format.specs.declared.format.Format.{Format}
 use Rattle.xapi_format.specs.declared.format.Format.TheVariants.{Exact}
 use Rattle.xapi_search.specs.XapiStatementStatements.{held_under, is_voided}
+use Rattle.xapi_search.specs.XapiIndexIndex.{statements_at}
 
 -- ---- references
 
@@ -91,9 +92,6 @@ abbrev pub page_behind : Query → Sight → List StoredStatement → Option ℕ
 page_behind query sight statements after = first_page query.page (listing_behind query sight statements after)
 
 -- ---- its text
-
-abbrev pub statements_at : List StoredStatement → List ℕ → List StoredStatement
-statements_at statements ks = filter_map (λ k. slice_get statements k) ks
 
 -- the items of an array of the statements at these positions, and the closing bracket
 abbrev pub items_text : Format → List StoredStatement → Bool → List ℕ → List ℕ

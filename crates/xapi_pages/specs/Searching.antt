@@ -7,7 +7,7 @@ use Rattle.xapi_search.specs.XapiQueryFilters.{in_time}
 use Rattle.xapi_search.specs.XapiQueryQueryQuery.{Query}
 use Rattle.xapi_search.specs.XapiQuerySightSight.{Sight}
 use Rattle.xapi_search.specs.Candidates.{is_before, is_candidate, stands_in}
-use Rattle.xapi_search.specs.Sought.{Tells, is_direct_at, is_seen}
+use Rattle.xapi_search.specs.Sought.{TellsSought, is_direct_at, is_seen}
 use Rattle.xapi_search.specs.declared.candidates.Candidates.{Candidates}
 use Rattle.xapi_search.specs.declared.candidates.Lists.{Lists}
 use Rattle.xapi_search.specs.declared.sought.Sought.{Sought}
@@ -24,7 +24,7 @@ seen_page page = record { positions = page.positions.items; link = page.link }
 
 -- it is the page after that position in the list as of the first n statements
 abbrev pub IsPage : Query → Sought → List StoredStatement → ℕ → Option ℕ → Found → Type 0
-IsPage query sought held n after page = (sight : Sight) → Tells query sight held sought
+IsPage query sought held n after page = (sight : Sight) → TellsSought query sight held sought
     → seen_page page ≡ page_behind query sight (take n held) after
 
 -- The statement at a position is seen, in time and not voided: it is listed if one of its chain passes.
@@ -36,14 +36,14 @@ may_be_listed query sought held n position =
 
 -- it tells whether the statement at a position is listed as of the first n
 abbrev pub TellsListed : Query → Sought → List StoredStatement → ℕ → ℕ → Bool → Type 0
-TellsListed query sought held n position listed = (sight : Sight) → Tells query sight held sought
+TellsListed query sought held n position listed = (sight : Sight) → TellsSought query sight held sought
     → listed ≡ is_listed_at query sight (take n held) position
 
 -- ---- where it is looked for
 
 -- What isn't a candidate isn't listed as of the first n statements.
 abbrev pub Covers : Query → Sought → List StoredStatement → ℕ → Candidates → Type 0
-Covers query sought held n candidates = (sight : Sight) → Tells query sight held sought
+Covers query sought held n candidates = (sight : Sight) → TellsSought query sight held sought
     → (k : ℕ) → k < n → is_candidate candidates k ≡ false → is_listed_at query sight (take n held) k ≡ false
 
 -- Of the first n positions, each that is seen, and of whose chain one is seen and passes, stands in one of the lists.

@@ -1,5 +1,5 @@
 -- What stands in a link is UTF-8, so it is bytes; and an id that was read is whole.
-use Rattle.std.proofs.Common.{◌≡◌, ℕ, zero, suc, ◌+◌, ◌*◌, ◌/◌, ◌%◌, ◌<◌, ◌^◌, ◌==◌, ◌&&◌, Bool, true, false, cond, nat_lt, if◌then◌else◌, List, [], ◌∷◌, length, get_or, Some, None, All, IsAscii, IsUtf8, ltb, ltb-true, ⊎_elim, refl, sym, subst, arith}
+use Rattle.std.proofs.Common.{◌≡◌, ℕ, zero, suc, ◌+◌, ◌*◌, ◌/◌, ◌%◌, ◌<◌, ◌^◌, ◌==◌, ◌&&◌, Bool, true, false, cond, if◌then◌else◌, List, [], ◌∷◌, length, get_or, Some, None, All, IsUtf8, ltb, ltb-true, ⊎_elim, refl, sym, subst, arith}
 use Rattle.std.specs.Fmt.{decimal}
 use Rattle.std.specs.List.{list_all}
 use Rattle.std.proofs.lemmas.Bool.{and_parts}
@@ -7,7 +7,6 @@ use Rattle.std.proofs.lemmas.Bool.Decides.{nat_tests}
 use Rattle.std.proofs.lemmas.Fmt.{IsAscii-decimal}
 use Rattle.std.proofs.lemmas.List.Elements.{All-append, All-cons, All-nil, All-same}
 use Rattle.std.proofs.lemmas.Str.{IsUtf8-from_ascii}
-use Rattle.std.proofs.lemmas.Str.Ascii.{IsAscii-cons, IsAscii-nil}
 use lib.Utf8.{encode, encodes, scalar, scalars, scalar_cases}
 use Rattle.percent_encoding.proofs.PercentLemmas.{IsByte}
 use Rattle.uuid.specs.Text.{byte_of_digits, by_index, digits_of, has_hyphens, is_hex_digit, parsed_simple, value_of}
@@ -50,21 +49,6 @@ pub utf8_bytes : (bs : List ℕ) → IsUtf8 bs → All IsByte bs
 utf8_bytes bs u = All-same IsByte bs (encodes u.0) (sym u.1.1) (encodes_bytes u.0 u.1.0)
 
 -- ---- texts that are known
-
-abbrev pub are_small : List ℕ → Bool
-are_small [] = true
-are_small (b ∷ bs) = nat_lt b 128 && are_small bs
-
-IsAscii-small : (bs : List ℕ) → are_small bs ≡ true → IsAscii bs
-IsAscii-small [] h = IsAscii-nil
-IsAscii-small (b ∷ bs) h =
-    let parts = and_parts (nat_lt b 128) (are_small bs) h in
-    let small : b < 128 = let test = parts.0 in grind (arith, nat_tests) in
-    IsAscii-cons b bs small (IsAscii-small bs parts.1)
-
--- of a text whose bytes are known: `IsUtf8-small _ refl`
-pub IsUtf8-small : (bs : List ℕ) → are_small bs ≡ true → IsUtf8 bs
-IsUtf8-small bs h = IsUtf8-from_ascii bs (IsAscii-small bs h)
 
 pub IsUtf8-decimal : (n : ℕ) → n < 2 ^ 64 → IsUtf8 (decimal n)
 IsUtf8-decimal n small = IsUtf8-from_ascii (decimal n) (IsAscii-decimal n small)

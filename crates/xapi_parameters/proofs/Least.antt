@@ -86,14 +86,14 @@ get_filters pairs least = (meets get_names pairs _ least).filters
 pub link_filters : (pairs : List Pair) → LeastOfLink None pairs → AreFilters pairs
 link_filters pairs least = (meets link_names pairs _ least).filters
 
--- the two places, and that they are in order
-pub link_places : (pairs : List Pair) → LeastOfLink None pairs
+-- the two numbers, and that they are in order
+pub link_numbers : (pairs : List Pair) → LeastOfLink None pairs
     → (has_link_number (codes "asof") pairs ≡ true) × (has_link_number (codes "after") pairs ≡ true)
     × (nat_lt (number_under (codes "after") pairs) (number_under (codes "asof") pairs) ≡ true)
-link_places pairs least =
-    let places = (meets link_names pairs _ least).rest.0 in
-    let two = first_so _ _ places in
-    (first_so _ _ two, second_so _ _ two, second_so _ _ places)
+link_numbers pairs least =
+    let numbers = (meets link_names pairs _ least).rest.0 in
+    let two = first_so _ _ numbers in
+    (first_so _ _ two, second_so _ _ two, second_so _ _ numbers)
 
 not_given : (value : Option (List ℕ)) → option_map_or is_id value true ≡ true → None ≡ option_and_then id_of value → is_some value ≡ false
 not_given None passed none = refl
@@ -159,7 +159,7 @@ module _ (given : List (List ℕ)) (pairs : List Pair) (found : Option ℕ) (sam
   link_broken rule is = list_broken given link_names pairs found same least rule _ is
 
   pub link_14 : found ≡ None → has_link_numbers pairs ≡ false → LeastOfLink (Some 14) pairs
-  link_14 is places = list_met given link_names pairs found same least _ is (not_true _ places)
+  link_14 is numbers = list_met given link_names pairs found same least _ is (not_true _ numbers)
 
   pub link_none : found ≡ None → has_link_numbers pairs ≡ true → LeastOfLink None pairs
-  link_none is places = list_met given link_names pairs found same least _ is (places, refl)
+  link_none is numbers = list_met given link_names pairs found same least _ is (numbers, refl)

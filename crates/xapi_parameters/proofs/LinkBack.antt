@@ -35,7 +35,8 @@ use Rattle.xapi_parameters.specs.declared.pair.Pair.{Pair}
 use Rattle.xapi_query.specs.declared.query.Given.{Given}
 use Rattle.xapi_query.specs.declared.query.Query.{Query}
 use Rattle.xapi_query.specs.declared.query.TheConstants.{MOST_OF_PAGE}
-use Rattle.xapi_parameters.proofs.Bytes.{IsUtf8-decimal, IsUtf8-small, id_whole}
+use Rattle.lrs_json.proofs.SmallBytes.{IsUtf8-small}
+use Rattle.xapi_parameters.proofs.Bytes.{IsUtf8-decimal, id_whole}
 use Rattle.xapi_parameters.proofs.Least.{get_filters, link_filters}
 use Rattle.xapi_parameters.proofs.Slots.{AreTextSlots, IsTextIf, Slot, among_in, as_pair, bytes_in, distinct_in, first_none, given_in, pairs_from, raw_of, texts_in}
 
@@ -380,8 +381,8 @@ format_passes_at Ids = refl
 format_passes : (P : List Pair) (link : MoreLink) → Shown P link → passes is_format (codes "format") P ≡ true
 format_passes P link s = ap (λ (o : Option (List ℕ)). option_map_or is_format o true) s.format ∙ format_passes_at link.query.format
 
-places_pass : (P : List Pair) (link : MoreLink) → Shown P link → link.after < link.asof → link.asof < 10 ^ MOST_LINK_DIGITS → has_link_numbers P ≡ true
-places_pass P link s within short =
+numbers_pass : (P : List Pair) (link : MoreLink) → Shown P link → link.after < link.asof → link.asof < 10 ^ MOST_LINK_DIGITS → has_link_numbers P ≡ true
+numbers_pass P link s within short =
     let one = digits_pass MOST_LINK_DIGITS link.asof (omega arith) short (omega arith) in
     let other = digits_pass MOST_LINK_DIGITS link.after (omega arith) (omega arith) (omega arith) in
     let asof : digits_value 10 (decimal link.asof) ≡ link.asof = (decimal_is_IsNumeral link.asof (omega arith)).1 in
@@ -395,7 +396,7 @@ unbroken P link s h within short = (
   s.among,
   (
     s.distinct,
-    (ids_pass P link s h, (agent_passes P link s h, (iris_pass P link s h, (truths_pass P link s, (times_pass P link s h, (limit_passes P link s h, (format_passes P link s, (places_pass P link s within short, refl)))))))),
+    (ids_pass P link s h, (agent_passes P link s h, (iris_pass P link s h, (truths_pass P link s, (times_pass P link s h, (limit_passes P link s h, (format_passes P link s, (numbers_pass P link s within short, refl)))))))),
   ),
 )
 

@@ -27,9 +27,9 @@ few_digits most text is =
 
 -- of a text that is given as a number of a link, and as a limit
 
-pub place_digits : (value : Option (List ℕ)) (text bytes : List ℕ) → Some text ≡ value → bytes ≡ text → option_map_or is_link_number value false ≡ true → AllDigits 10 bytes × (length bytes ≤ 19)
-place_digits None text bytes is lent test = absurd (cc is)
-place_digits (Some t) text bytes is lent test =
+pub number_digits : (value : Option (List ℕ)) (text bytes : List ℕ) → Some text ≡ value → bytes ≡ text → option_map_or is_link_number value false ≡ true → AllDigits 10 bytes × (length bytes ≤ 19)
+number_digits None text bytes is lent test = absurd (cc is)
+number_digits (Some t) text bytes is lent test =
     let same : bytes ≡ t = lent ∙ cc is in
     let passed : is_link_number bytes ≡ true = ap is_link_number same ∙ test in
     let few = few_digits MOST_LINK_DIGITS bytes passed in

@@ -1,6 +1,6 @@
 -- The parameters of requests for state documents (xAPI 1.0.3, part three, section 2.3): their names, the rules on them
 -- by their numbers, and what they ask for.
-use Rattle.std.specs.Prelude.{◌≡◌, ℕ, ℤ, List, [], ◌∷◌, Bool, true, Option, Some, None, option_and_then, codes, IsTrue}
+use Rattle.std.specs.Prelude.{◌≡◌, ℕ, ℤ, List, [], ◌∷◌, Bool, Option, Some, None, option_and_then, codes, IsTrue}
 use Rattle.std.specs.Prelude.{MatchOption, if◌then◌else◌}
 use Rattle.std.specs.List.{list_all}
 use Rattle.std.specs.Result.{result_ok}

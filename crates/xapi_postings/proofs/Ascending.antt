@@ -24,7 +24,7 @@ passed i k same = omega arith
 
 -- ---- what holds of each
 
-all-append : {A : Type 0} (P : A → Type 0) (xs : List A) (x : A) → AllByRecursion P xs → P x → AllByRecursion P (xs ++ x ∷ [])
+pub all-append : {A : Type 0} (P : A → Type 0) (xs : List A) (x : A) → AllByRecursion P xs → P x → AllByRecursion P (xs ++ x ∷ [])
 all-append P [] x each is = (is, tt)
 all-append P (y ∷ xs) x each is = (each.0, all-append P xs x each.1 is)
 
@@ -103,7 +103,7 @@ ascending-below n (k ∷ ks) up = by_test (nat_lt k n) (all-below n (λ j. k < j
     by_test true behind more = (behind, more)
     by_test false behind more = more
 
--- of two places the later one has the greater position
+-- of two indices the later one has the greater position
 pub ascending-at : (ks : List ℕ) (i j a b : ℕ) → IsAscending ks → i < j → slice_get ks i ≡ Some a → slice_get ks j ≡ Some b → a < b
 ascending-at [] i j a b up less at behind = absurd (none-some a at)
 ascending-at (k ∷ ks) zero zero a b up less at behind = absurd (omega arith)
@@ -111,7 +111,7 @@ ascending-at (k ∷ ks) zero (suc j) a b up less at behind = subst (λ m. m < b)
 ascending-at (k ∷ ks) (suc i) zero a b up less at behind = absurd (omega arith)
 ascending-at (k ∷ ks) (suc i) (suc j) a b up less at behind = ascending-at ks i j a b up.1 (omega arith) at behind
 
--- no later place has a lesser position
+-- no later index has a lesser position
 pub ascending-up_to : (ks : List ℕ) (i j a b : ℕ) → IsAscending ks → i ≤ j → slice_get ks i ≡ Some a → slice_get ks j ≡ Some b → a ≤ b
 ascending-up_to ks i j a b up le at behind = by_case le (cases_lt i j)
   where
@@ -129,16 +129,16 @@ pub not_in-behind : (k : ℕ) (ks : List ℕ) → AllByRecursion (λ j. k < j) k
 not_in-behind k [] behind = refl
 not_in-behind k (j ∷ ks) behind = ap (λ b. b || is_in ks k) (ne_eqb j k (apart j k behind.0)) ∙ not_in-behind k ks behind.1
 
--- what stands at a place is among them
+-- what stands at an index is among them
 pub in-at : (ks : List ℕ) (i k : ℕ) → slice_get ks i ≡ Some k → is_in ks k ≡ true
 in-at [] i k at = absurd (none-some k at)
 in-at (j ∷ ks) zero k at = ap (λ b. b || is_in ks k) (eq-eqb j k (same_Some j k at))
 in-at (j ∷ ks) (suc i) k at = or_right (j == k) (is_in ks k) (in-at ks i k at)
 
--- what is among them stands at a place
-pub place_of : (ks : List ℕ) (k : ℕ) → is_in ks k ≡ true → (i : ℕ) × (slice_get ks i ≡ Some k)
-place_of [] k among = absurd (false≢true among)
-place_of (j ∷ ks) k among = by_test (j == k) refl among (λ rest. place_of ks k rest)
+-- what is among them stands at an index
+pub index_of : (ks : List ℕ) (k : ℕ) → is_in ks k ≡ true → (i : ℕ) × (slice_get ks i ≡ Some k)
+index_of [] k among = absurd (false≢true among)
+index_of (j ∷ ks) k among = by_test (j == k) refl among (λ rest. index_of ks k rest)
   where
     by_test : (b : Bool) → (j == k) ≡ b → (b || is_in ks k) ≡ true → (is_in ks k ≡ true → (i : ℕ) × (slice_get ks i ≡ Some k)) → (i : ℕ) × (slice_get (j ∷ ks) i ≡ Some k)
     by_test true same is more = (zero, ap Some (eqb-true j k same))

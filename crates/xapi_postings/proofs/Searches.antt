@@ -5,7 +5,7 @@ use Rattle.std.proofs.lemmas.Bool.{cases_lt, eqb-false, eqb-true, false_from_ne_
 use Rattle.std.proofs.lemmas.Option.{get_or_from_slice_get, none-some, same_Some, slice_get-get_or, slice_get_within}
 use Rattle.xapi_postings.specs.Ascending.{IsAscending, is_in}
 use Rattle.xapi_postings.specs.Nearest.{IsGreatestBelow, IsLeastFrom}
-use Rattle.xapi_postings.proofs.Ascending.{ascending-up_to, in-at, place_of}
+use Rattle.xapi_postings.proofs.Ascending.{ascending-up_to, in-at, index_of}
 
 -- as many of them are below that bound
 abbrev pub AreBelow : List ℕ → ℕ → ℕ → Type 0
@@ -40,7 +40,7 @@ short ks end count n k counted there less = by_case less (cases_lt n count)
     by_case under (inl before) = before
     by_case under (inr behind) = absurd (omega (arith, high ks end count n k counted there behind))
 
--- where a later place has a position, each has one
+-- where a later index has a position, each has one
 no_gap : (ks : List ℕ) (i n k : ℕ) → slice_get ks i ≡ None → i ≤ n → slice_get ks n ≡ Some k → ⊥
 no_gap ks i n k none le there = none-some (get_or ks i k) (sym none ∙ slice_get-get_or ks i k (omega (arith, slice_get_within ks n k there)))
 
@@ -54,10 +54,10 @@ found_there ks k count j up counted at = by_test (j == k) refl
 
     by_test : (b : Bool) → (j == k) ≡ b → b ≡ is_in ks k
     by_test true same = sym (in-at ks count k (at ∙ ap Some (eqb-true j k same)))
-    by_test false other = sym (false_from_ne_true (is_in ks k) (λ among. eqb-false j k other (one (place_of ks k among).0 (place_of ks k among).1)))
+    by_test false other = sym (false_from_ne_true (is_in ks k) (λ among. eqb-false j k other (one (index_of ks k among).0 (index_of ks k among).1)))
 
 pub not_there : (ks : List ℕ) (k count : ℕ) → AreBelow ks k count → slice_get ks count ≡ None → false ≡ is_in ks k
-not_there ks k count counted none = sym (false_from_ne_true (is_in ks k) (λ among. beyond (place_of ks k among).0 (place_of ks k among).1))
+not_there ks k count counted none = sym (false_from_ne_true (is_in ks k) (λ among. beyond (index_of ks k among).0 (index_of ks k among).1))
   where
     beyond : (n : ℕ) → slice_get ks n ≡ Some k → ⊥
     beyond n there = no_gap ks count n k none (reached ks k count n k counted there (omega arith)) there
@@ -67,7 +67,7 @@ not_there ks k count counted none = sym (false_from_ne_true (is_in ks k) (λ amo
 least_some : (ks : List ℕ) (start count j : ℕ) → IsAscending ks → AreBelow ks start count → slice_get ks count ≡ Some j → IsLeastFrom (is_in ks) start (Some j)
 least_some ks start count j up counted at = record {
   found = λ k is. (omega (arith, high ks start count count j counted at (omega arith), same_Some j k is), in-at ks count k (at ∙ is));
-  no_other = λ k from before. false_from_ne_true (is_in ks k) (λ among. none k from (ltb-true k j before) (place_of ks k among).0 (place_of ks k among).1);
+  no_other = λ k from before. false_from_ne_true (is_in ks k) (λ among. none k from (ltb-true k j before) (index_of ks k among).0 (index_of ks k among).1);
 }
   where
     none : (k : ℕ) → start ≤ k → k < j → (n : ℕ) → slice_get ks n ≡ Some k → ⊥
@@ -76,7 +76,7 @@ least_some ks start count j up counted at = record {
 least_none : (ks : List ℕ) (start count : ℕ) → AreBelow ks start count → slice_get ks count ≡ None → IsLeastFrom (is_in ks) start None
 least_none ks start count counted past = record {
   found = λ k is. absurd (none-some k is);
-  no_other = λ k from before. false_from_ne_true (is_in ks k) (λ among. none k from (place_of ks k among).0 (place_of ks k among).1);
+  no_other = λ k from before. false_from_ne_true (is_in ks k) (λ among. none k from (index_of ks k among).0 (index_of ks k among).1);
 }
   where
     none : (k : ℕ) → start ≤ k → (n : ℕ) → slice_get ks n ≡ Some k → ⊥
@@ -94,7 +94,7 @@ least_from ks start count answer up counted is = by_answer answer is
 pub greatest_none : (ks : List ℕ) (end count : ℕ) → AreBelow ks end count → count ≡ 0 → IsGreatestBelow (is_in ks) end None
 greatest_none ks end count counted first = record {
   found = λ k is. absurd (none-some k is);
-  no_other = λ k less after. false_from_ne_true (is_in ks k) (λ among. none k less (place_of ks k among).0 (place_of ks k among).1);
+  no_other = λ k less after. false_from_ne_true (is_in ks k) (λ among. none k less (index_of ks k among).0 (index_of ks k among).1);
 }
   where
     none : (k : ℕ) → k < end → (n : ℕ) → slice_get ks n ≡ Some k → ⊥
@@ -103,7 +103,7 @@ greatest_none ks end count counted first = record {
 greatest_some : (ks : List ℕ) (end count i j : ℕ) → IsAscending ks → AreBelow ks end count → i + 1 ≡ count → slice_get ks i ≡ Some j → IsGreatestBelow (is_in ks) end (Some j)
 greatest_some ks end count i j up counted last at = record {
   found = λ k is. (omega (arith, low ks end count i j counted at (omega (arith, last)), same_Some j k is), in-at ks i k (at ∙ is));
-  no_other = λ k less after. false_from_ne_true (is_in ks k) (λ among. none k less (ltb-true j k after) (place_of ks k among).0 (place_of ks k among).1);
+  no_other = λ k less after. false_from_ne_true (is_in ks k) (λ among. none k less (ltb-true j k after) (index_of ks k among).0 (index_of ks k among).1);
 }
   where
     none : (k : ℕ) → k < end → j < k → (n : ℕ) → slice_get ks n ≡ Some k → ⊥

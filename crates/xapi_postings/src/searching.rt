@@ -36,10 +36,10 @@ pub fn last_below(list: &[u32], end: usize) -> Option<usize>
     }
 }
 
-fn position_at(list: &[u32], place: usize) -> Option<usize>
-    ensures { result ≡ slice_get list.now place }
+fn position_at(list: &[u32], index: usize) -> Option<usize>
+    ensures { result ≡ slice_get list.now index }
 {
-    match list.get(place) {
+    match list.get(index) {
         Some(position) => Some(*position as usize),
         None => None,
     }

@@ -45,7 +45,7 @@ is_about id j = has_member_that (codes "object") (is_activity_of id) j
 unfoldable pub nested_has_activity : List ℕ → Json → Bool
 nested_has_activity id j = is_nested j && (is_about id j || has_some_context_activity id j)
 
--- The object is that Activity; of the related places, also the context activities, and those of a SubStatement.
+-- The object is that Activity; in the related roles, also the context activities, and those of a SubStatement.
 unfoldable pub has_activity : List ℕ → Bool → Json → Bool
 has_activity id related j =
     is_about id j

@@ -3,7 +3,7 @@ pub use Rattle.xapi_rules.specs.LrsAgentsIdentifiersIfi as LrsAgentsIdentifiersI
 pub use Rattle.xapi_rules.specs.Nulls as XapiRulesNulls
 pub use Rattle.xapi_rules.specs.Objects as XapiRulesObjects
 pub use Rattle.xapi_rules.specs.Rules as XapiRulesRules
-pub use Rattle.xapi_rules.specs.declared.nulls.Role.TheVariants as XapiRulesNullsRoleTheVariants
+pub use Rattle.xapi_rules.specs.declared.nulls.NullRole.TheVariants as XapiRulesNullsNullRoleTheVariants
 pub mod Members
 pub mod Activities
 pub mod Parties

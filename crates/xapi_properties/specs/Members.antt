@@ -3,13 +3,14 @@ use Rattle.std.specs.Prelude.{ℕ, List, [], Bool, Option, Some, None}
 use Rattle.std.specs.Prelude.{option_and_then, unwrap_or, codes, if◌then◌else◌}
 use Rattle.lrs_json.specs.Json.{Json, null, boolean, number, string, array, object}
 use Rattle.lrs_json.specs.Find.{find}
+use Rattle.lrs_json.specs.Parts.{text_in}
 use Rattle.lrs_names.specs.Ids.{id_of}
-use Rattle.lrs_names.specs.Members.{has_member, has_member_that, spelling_under, text_of, text_under}
+use Rattle.lrs_names.specs.Members.{has_member, has_member_that, spelling_under, text_under}
 use Rattle.xapi_rules.specs.Rules.{is_about_activity, is_about_reference}
 
 -- a text that is a UUID, as an id
 abbrev pub id_in : Json → Option (List ℕ)
-id_in j = option_and_then id_of (text_of j)
+id_in j = option_and_then id_of (text_in j)
 
 -- the id that the statement gives itself
 abbrev pub own_id : Json → Option (List ℕ)

@@ -36,7 +36,7 @@ has_related_agent ifi j =
     || has_member_that (codes "object") (nested_has_agent ifi) j
 
 -- That identifier is the actor's, or that of the object if it is an Agent or a Group, or of a member of such a Group.
--- Of the related places: also of the authority, the instructor, the team, their members, and the same places of a
+-- In the related roles: also that of the authority, the instructor, the team, their members, and the same of a
 -- SubStatement.
 unfoldable pub has_agent : Ifi → Bool → Json → Bool
 has_agent ifi related j = has_direct_agent ifi j || (related && has_related_agent ifi j)

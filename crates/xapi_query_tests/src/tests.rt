@@ -456,7 +456,7 @@ fn times_are_held_at_their_edges(rt: HostRuntime) -> Result<(), Fail> {
     Ok(())
 }
 
-// The place of the first sight that doesn't see the first or the second as it should. What a session sees hangs on the
+// The index of the first sight that doesn't see the first or the second as it should. What a session sees hangs on the
 // registration alone, and not on who sent a statement.
 fn first_wrong_sight(first: &HeldStatement, second: &HeldStatement) -> Result<Option<usize>, Fail> {
     let named = Id::read(b"aaaaaaaa-1111-4111-8111-111111111111").ok_or("no id")?;

@@ -7,6 +7,7 @@ use Rattle.std.proofs.lemmas.List.{append-nil, drop-append-le, take_rest}
 use Rattle.lrs_json.specs.Json.{Json, array, element, no_elements}
 use Rattle.lrs_json.specs.Spellable.{IsSpellable}
 use Rattle.lrs_json.specs.Written.{written}
+use Rattle.lrs_json.proofs.Pieces.{behind}
 use Rattle.xapi_received.specs.Marking.{AddsText, Marks, shown_text}
 use Rattle.xapi_received.specs.Excerpts.{listed}
 use Rattle.xapi_received.specs.Received.{AreWithin, bracket_text, excerpt_text, excerpts_text}
@@ -14,7 +15,6 @@ use Rattle.xapi_received.specs.declared.draft.Draft.{Draft}
 use Rattle.xapi_received.specs.declared.marks.Bracket.{Bracket}
 use Rattle.xapi_received.specs.declared.marks.Bracket.TheVariants.{Opening, Closing}
 use Rattle.xapi_received.specs.declared.marks.Excerpt.{Excerpt}
-use Rattle.xapi_format.proofs.Appending.{behind}
 use Rattle.xapi_received.proofs.Spans.{longer, excerpt_at, excerpts_grown, within_append, within_more}
 
 -- ---- over plain lists

@@ -13,6 +13,7 @@ use Rattle.lrs_json.specs.Texts.{member_text}
 use Rattle.lrs_json.specs.View.{view}
 use Rattle.lrs_json.specs.Written.{comma_if, members_text, quoted, written}
 use Rattle.lrs_json.specs.declared.tree.Member.{Member}
+use Rattle.lrs_json.proofs.Steps.{later_on}
 use Rattle.xapi_format.specs.LrsNamesMembers.{is_one_of}
 use Rattle.xapi_format.specs.Completed.{added_names, kept_before, plural_member}
 use Rattle.xapi_received.specs.Marking.{AddsText, IsFirst, MarksMember, SoFar, shown_text}
@@ -23,7 +24,7 @@ use Rattle.xapi_received.specs.declared.marks.ByteSpan.{ByteSpan}
 use Rattle.xapi_format.proofs.Appending.{member_more}
 use Rattle.xapi_received.proofs.Drafting.{adds_as, adds_both, nothing_added}
 use Rattle.xapi_received.proofs.Left.{first_left}
-use Rattle.xapi_received.proofs.Memberwise.{later_than_first, seen}
+use Rattle.xapi_received.proofs.Memberwise.{seen}
 use Rattle.xapi_received.proofs.Spans.{given_grown, has_grown, span_grown}
 
 -- ---- the comma before a member
@@ -153,7 +154,7 @@ pub so_far_step : (ms : List Member) (start now next : Draft) (ending after : En
     → ((all us : Members) (from : Draft) → SoFar all from (nat_lt 0 i) (member m.name (view m.value) us) now ending → SoFar all from true us next after)
     → SoFar (seen ms) start (nat_lt 0 (i + 1)) (seen (drop (i + 1) ms)) next after
 so_far_step ms start now next ending after i m lt at so one =
-    subst (λ (b : Bool). SoFar (seen ms) start b (seen (drop (i + 1) ms)) next after) (sym (later_than_first i))
+    subst (λ (b : Bool). SoFar (seen ms) start b (seen (drop (i + 1) ms)) next after) (sym (later_on i))
     (one (seen ms) (seen (drop (i + 1) ms)) start (subst (λ (us : Members). SoFar (seen ms) start (nat_lt 0 i) us now ending) (first_left ms i m lt at) so))
 
 pub so_far_last : (all : Members) (left : List Member) (start now : Draft) (stands : Bool) (ending : Ending) → left ≡ [] → SoFar all start stands (seen left) now ending → SoFar all start true no_members now ending

@@ -1,7 +1,6 @@
 -- Members that are written, with what is shown of them.
-use Rattle.std.proofs.Common.{◌≡◌, ◌+◌, ◌<◌, ℕ, length, get_or, List, [], ◌∷◌, ◌++◌, map, drop, nat_lt, Bool, true, false, Option, Some, None, if◌then◌else◌, refl, sym, ap, subst, ◌∙◌, arith, append_assoc}
+use Rattle.std.proofs.Common.{◌≡◌, ◌+◌, ◌<◌, ℕ, length, get_or, List, [], ◌∷◌, ◌++◌, map, drop, nat_lt, Bool, true, false, Option, Some, None, if◌then◌else◌, refl, sym, ap, subst, ◌∙◌, append_assoc}
 use Rattle.std.specs.Prelude.{IsUtf8}
-use Rattle.std.proofs.lemmas.Bool.Decides.{nat_tests}
 use Rattle.lrs_json.specs.Json.{Json, null, boolean, number, string, array, object, element, no_elements, Members, no_members, member}
 use Rattle.lrs_json.specs.Parts.{members_in}
 use Rattle.lrs_json.specs.Spellable.{AreSpellableMembers}
@@ -9,6 +8,7 @@ use Rattle.lrs_json.specs.Texts.{member_text, name_text}
 use Rattle.lrs_json.specs.View.{view, member_view, members_of}
 use Rattle.lrs_json.specs.Written.{members_text, written}
 use Rattle.lrs_json.specs.declared.tree.Member.{Member}
+use Rattle.lrs_json.proofs.Steps.{later_on}
 use Rattle.xapi_format.specs.XapiValuesMemberwise.{each_member, with_each_member}
 use Rattle.xapi_format.specs.XapiValuesNested.{is_nested}
 use Rattle.xapi_format.specs.Completed.{in_array, plural_nested_member, plural_object}
@@ -103,14 +103,11 @@ rest_next change all ms start now next later name j so n = record {
   spellable = λ rest. so.spellable (n.utf8, n.spellable, rest);
 }
 
-pub later_than_first : (i : ℕ) → nat_lt 0 (i + 1) ≡ true
-later_than_first i = grind (arith, nat_tests)
-
 pub rest_step : (change : List ℕ → Json → Json) (ms : List Member) (start now next : Draft) (i : ℕ) (m : Member) → i < length ms → m ≡ get_or ms i m
     → Rest change (seen ms) start (nat_lt 0 i) (seen (drop i ms)) now → MarksMember (nat_lt 0 i) (nat_lt 0 i) m.name (view m.value) (change m.name (view m.value)) now next
     → Rest change (seen ms) start (nat_lt 0 (i + 1)) (seen (drop (i + 1) ms)) next
 rest_step change ms start now next i m lt at so n =
-    subst (λ (b : Bool). Rest change (seen ms) start b (seen (drop (i + 1) ms)) next) (sym (later_than_first i))
+    subst (λ (b : Bool). Rest change (seen ms) start b (seen (drop (i + 1) ms)) next) (sym (later_on i))
     (rest_next change (seen ms) (seen (drop (i + 1) ms)) start now next (nat_lt 0 i) m.name (view m.value)
     (subst (λ (us : Members). Rest change (seen ms) start (nat_lt 0 i) us now) (first_left ms i m lt at) so) n)
 

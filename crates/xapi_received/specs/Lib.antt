@@ -1,3 +1,4 @@
+pub use Rattle.xapi_format.proofs.Appending as XapiFormatAppendingProofs
 pub use Rattle.xapi_format.proofs.Authorities as XapiFormatAuthoritiesProofs
 pub use Rattle.xapi_format.specs.Authorities as XapiFormatAuthorities
 pub use Rattle.xapi_format.specs.Completed as XapiFormatCompleted

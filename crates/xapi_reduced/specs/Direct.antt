@@ -6,7 +6,8 @@ use Rattle.lrs_names.specs.Members.{is_one_of}
 use Rattle.xapi_format.specs.Completed.{added_names, in_array}
 use Rattle.xapi_values.specs.Memberwise.{with_each_member}
 use Rattle.xapi_values.specs.Nested.{is_nested}
-use Rattle.xapi_reduced.specs.Reduced.{activity_names, agent_names, group_names, reduced_activity, reduced_party, reduced_plain_object, reduced_verb, with_each_item}
+use Rattle.xapi_reduced.specs.Reduced.{activity_names, agent_names, group_names, reduced_activity}
+use Rattle.xapi_reduced.specs.Reduced.{reduced_party, reduced_plain_object, reduced_verb, with_each_item}
 use Rattle.xapi_reduced.specs.declared.names.KeptNames.{KeptNames}
 use Rattle.xapi_reduced.specs.declared.names.KeptNames.TheVariants.{OfVerb, OfActivity, OfGroup, OfAgent}
 

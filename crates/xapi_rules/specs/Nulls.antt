@@ -8,12 +8,12 @@ use Rattle.lrs_json.specs.Json.{Members, no_members, member}
 use Rattle.xapi_values.specs.Kinds.{kind_of, is_activity_kind, same_kind}
 use Rattle.xapi_values.specs.declared.kinds.Kind.{Kind}
 use Rattle.xapi_values.specs.declared.kinds.Kind.TheVariants.{SubStatement}
-use Rattle.xapi_rules.specs.declared.nulls.Role.{Role}
-use Rattle.xapi_rules.specs.declared.nulls.Role.TheVariants.{Plain, Statement, Object, Described, Holder, Context}
-use Rattle.xapi_rules.specs.declared.nulls.Role.TheVariants.{ContextActivities, Activities, Extensions}
+use Rattle.xapi_rules.specs.declared.nulls.NullRole.{NullRole}
+use Rattle.xapi_rules.specs.declared.nulls.NullRole.TheVariants.{Plain, Statement, Object, Described, Holder, Context}
+use Rattle.xapi_rules.specs.declared.nulls.NullRole.TheVariants.{ContextActivities, Activities, Extensions}
 
--- What a member's place makes of it. The `extensions` of a definition, of a result and of a context are free.
-unfoldable pub role_of_member : Role → List ℕ → Role
+-- What a member's name makes of it. The `extensions` of a definition, of a result and of a context are free.
+unfoldable pub role_of_member : NullRole → List ℕ → NullRole
 role_of_member Plain name = Plain
 role_of_member Statement name =
     if bytes_eq name (codes "object") then Object
@@ -31,17 +31,17 @@ role_of_member ContextActivities name =
 role_of_member Activities name = Plain
 role_of_member Extensions name = Plain
 
--- What a place makes of an item of an array that stands there: context activities may stand in one.
-abbrev pub role_of_item : Role → Role
+-- What a role makes of an item of an array that has it: context activities may stand in one.
+abbrev pub role_of_item : NullRole → NullRole
 role_of_item Activities = Described
 role_of_item _ = Plain
 
 -- an object where an Activity may stand: an Activity alone may have a definition
-abbrev pub role_of_activity : Kind → Role
+abbrev pub role_of_activity : Kind → NullRole
 role_of_activity kind = if is_activity_kind kind then Described else Plain
 
--- what a place makes of an object that stands there
-abbrev pub role_of_object : Role → Kind → Role
+-- what a role makes of an object that has it
+abbrev pub role_of_object : NullRole → Kind → NullRole
 role_of_object Plain kind = Plain
 role_of_object Statement kind = Statement
 role_of_object Object kind = if same_kind kind SubStatement then Statement else role_of_activity kind
@@ -52,12 +52,12 @@ role_of_object ContextActivities kind = ContextActivities
 role_of_object Activities kind = role_of_activity kind
 role_of_object Extensions kind = Extensions
 
-abbrev pub is_free : Role → Bool
+abbrev pub is_free : NullRole → Bool
 is_free Extensions = true
 is_free _ = false
 
 abbrev mutual
-  pub has_null : Role → Json → Bool
+  pub has_null : NullRole → Json → Bool
   has_null role null = true
   has_null role (boolean b) = false
   has_null role (number s) = false
@@ -66,10 +66,10 @@ abbrev mutual
   has_null role (object ms) =
       if is_free role then false else members_have_null (role_of_object role (kind_of (object ms))) ms
 
-  pub items_have_null : Role → Elements → Bool
+  pub items_have_null : NullRole → Elements → Bool
   items_have_null role no_elements = false
   items_have_null role (element j js) = has_null role j || items_have_null role js
 
-  pub members_have_null : Role → Members → Bool
+  pub members_have_null : NullRole → Members → Bool
   members_have_null role no_members = false
   members_have_null role (member name j ms) = has_null (role_of_member role name) j || members_have_null role ms

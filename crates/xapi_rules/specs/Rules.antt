@@ -16,7 +16,7 @@ use Rattle.xapi_rules.specs.Nulls.{has_null}
 use Rattle.xapi_values.specs.declared.kinds.Kind.{Kind}
 use Rattle.xapi_values.specs.declared.kinds.Kind.TheVariants.{Unstated, Activity, Agent, Group, StatementRef}
 use Rattle.xapi_values.specs.declared.kinds.Kind.TheVariants.{SubStatement, Other}
-use Rattle.xapi_rules.specs.declared.nulls.Role.TheVariants.{Statement}
+use Rattle.xapi_rules.specs.declared.nulls.NullRole.TheVariants.{Statement}
 
 -- ---- what a statement and a SubStatement share
 

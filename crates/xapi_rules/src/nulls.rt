@@ -6,9 +6,9 @@ ghost use Rattle.xapi_rules.specs.Nulls.{role_of_member, role_of_item, role_of_a
 use lrs_json::{Member, Tree};
 use xapi_values::Kind;
 
-/// What a place in a statement makes of the value there, as far as it tells which extensions are free.
+/// What the role of a value in a statement makes of it, as far as it tells which extensions are free.
 #[derive(Clone, Copy, Debug, PartialEq, Eq)]
-pub enum Role {
+pub enum NullRole {
     Plain,
     /// A statement or a SubStatement.
     Statement,
@@ -25,72 +25,74 @@ pub enum Role {
     Extensions,
 }
 
-impl Role {
+impl NullRole {
     #[tactic(auto, unfolding(crate::specs::Nulls::role_of_member))]
-    fn of_member(self, name: &str) -> Role
+    fn of_member(self, name: &str) -> NullRole
         ensures { result ≡ role_of_member self name.now }
     {
         match self {
-            Role::Statement => match name {
-                "object" => Role::Object,
-                "result" => Role::Holder,
-                "context" => Role::Context,
-                _ => Role::Plain,
+            NullRole::Statement => match name {
+                "object" => NullRole::Object,
+                "result" => NullRole::Holder,
+                "context" => NullRole::Context,
+                _ => NullRole::Plain,
             },
-            Role::Described => match name {
-                "definition" => Role::Holder,
-                _ => Role::Plain,
+            NullRole::Described => match name {
+                "definition" => NullRole::Holder,
+                _ => NullRole::Plain,
             },
-            Role::Holder => match name {
-                "extensions" => Role::Extensions,
-                _ => Role::Plain,
+            NullRole::Holder => match name {
+                "extensions" => NullRole::Extensions,
+                _ => NullRole::Plain,
             },
-            Role::Context => match name {
-                "extensions" => Role::Extensions,
-                "contextActivities" => Role::ContextActivities,
-                _ => Role::Plain,
+            NullRole::Context => match name {
+                "extensions" => NullRole::Extensions,
+                "contextActivities" => NullRole::ContextActivities,
+                _ => NullRole::Plain,
             },
-            Role::ContextActivities => match name {
-                "parent" | "grouping" | "category" | "other" => Role::Activities,
-                _ => Role::Plain,
+            NullRole::ContextActivities => match name {
+                "parent" | "grouping" | "category" | "other" => NullRole::Activities,
+                _ => NullRole::Plain,
             },
-            Role::Plain | Role::Object | Role::Activities | Role::Extensions => Role::Plain,
+            NullRole::Plain | NullRole::Object | NullRole::Activities | NullRole::Extensions =>
+                NullRole::Plain,
         }
     }
 
-    fn of_item(self) -> Role
+    fn of_item(self) -> NullRole
         ensures { result ≡ role_of_item self }
     {
         match self {
-            Role::Activities => Role::Described,
-            _ => Role::Plain,
+            NullRole::Activities => NullRole::Described,
+            _ => NullRole::Plain,
         }
     }
 
-    fn of_activity(kind: Kind) -> Role
+    fn of_activity(kind: Kind) -> NullRole
         ensures { result ≡ role_of_activity kind }
     {
         if kind.is_activity() {
-            Role::Described
+            NullRole::Described
         } else {
-            Role::Plain
+            NullRole::Plain
         }
     }
 
-    fn of_object(self, kind: Kind) -> Role
+    fn of_object(self, kind: Kind) -> NullRole
         ensures { result ≡ role_of_object self kind }
     {
         match (self, kind) {
-            (Role::Object, Kind::SubStatement) => Role::Statement,
-            (Role::Object | Role::Described | Role::Activities, kind) => Role::of_activity(kind),
+            (NullRole::Object, Kind::SubStatement) => NullRole::Statement,
+            (NullRole::Object | NullRole::Described | NullRole::Activities, kind) =>
+                NullRole::of_activity(kind),
             (role, _) => role,
         }
     }
 }
 
-/// Whether a null stands in the tree, if its place has that role, outside what is free there.
+/// Whether a null stands in the tree, if that is its role, outside what is free there.
 #[cycle(nulls)]
-pub fn has_null(tree: &Tree, role: Role) -> bool
+pub fn has_null(tree: &Tree, role: NullRole) -> bool
     ensures { result ≡ has_null role (view tree.now) }
 {
     match tree {
@@ -98,14 +100,14 @@ pub fn has_null(tree: &Tree, role: Role) -> bool
         Tree::Bool(_) | Tree::Number(_) | Tree::Words(_) => false,
         Tree::List(items) => items_have_null(items.as_slice(), role.of_item()),
         Tree::Object(members) => {
-            role != Role::Extensions
+            role != NullRole::Extensions
                 && members_have_null(members.as_slice(), role.of_object(Kind::of(tree)))
         }
     }
 }
 
 #[cycle(nulls)]
-fn items_have_null(items: &[Tree], role: Role) -> bool
+fn items_have_null(items: &[Tree], role: NullRole) -> bool
     ensures { result ≡ items_have_null role (elements_of (map view items.now)) }
 {
     for item in items {
@@ -117,7 +119,7 @@ fn items_have_null(items: &[Tree], role: Role) -> bool
 }
 
 #[cycle(nulls)]
-fn members_have_null(members: &[Member], role: Role) -> bool
+fn members_have_null(members: &[Member], role: NullRole) -> bool
     ensures { result ≡ members_have_null role (members_of (map member_view members.now)) }
 {
     for member in members {

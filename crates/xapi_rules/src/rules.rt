@@ -10,7 +10,7 @@ ghost use Rattle.xapi_rules.specs.Rules.{actor_faults, is_verb, verb_faults, has
 
 use crate::attachments::broken_attachments;
 use crate::contexts::{broken_context, broken_result};
-use crate::nulls::{Role, has_null};
+use crate::nulls::{NullRole, has_null};
 use crate::objects::{broken_nested_object, broken_plain_object};
 use lrs_agents::{Agent, Group, broken_agent_or_group};
 use lrs_json::{Memory, Tree};
@@ -267,7 +267,7 @@ fn broken_form(tree: &Tree) -> Option<u8>
 {
     let broken = unless(has_action(tree), 1);
     let broken = lesser(broken, unless(has_only_members(tree), 2));
-    lesser(broken, unless(!has_null(tree, Role::Statement), 3))
+    lesser(broken, unless(!has_null(tree, NullRole::Statement), 3))
 }
 
 fn has_id_form(tree: &Tree) -> bool

@@ -19,7 +19,7 @@ use Rattle.xapi_index.specs.XapiStatementKeysKeyKey.{Key}
 abbrev pub Lists : Type 0
 Lists = List (Bor (List ℕ))
 
--- the list at a place, as a proof reads `lists[i]`
+-- the list at an index, as a proof reads `lists[i]`
 abbrev pub list_at : Lists → ℕ → List ℕ
 list_at lists i = (get_or lists i (record { ref_ptr = (0, 0); now = [] })).now
 

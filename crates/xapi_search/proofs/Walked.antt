@@ -13,6 +13,7 @@ use Rattle.std.proofs.lemmas.List.Folds.{list_any-append, list_any_more}
 use Rattle.std.proofs.lemmas.List.Quantifiers.{position-Some}
 use Rattle.std.proofs.lemmas.Option.{option_and_then_some, slice_get-get_or}
 use Rattle.lrs_json.specs.View.{view}
+use Rattle.lrs_json.proofs.Sets.{cond_or, not_false}
 use Rattle.xapi_index.specs.Index.{IsPosting}
 use Rattle.xapi_index.specs.XapiStatementStatements.{position_referred, referred_at}
 use Rattle.xapi_index.proofs.Firsts.{get_first}
@@ -31,14 +32,6 @@ has_in : (ks : List ℕ) (k : ℕ) → list_any (is_at (nat_cmp k)) ks ≡ is_in
 has_in [] k = refl
 has_in (x ∷ xs) k =
     ap (λ b. b || list_any (is_at (nat_cmp k)) xs) (unsigned_tied k x ∙ nat_eq_equiv.symm k x) ∙ ap (λ b. (x == k) || b) (has_in xs k)
-
-cond_or : (b c : Bool) → cond b true c ≡ (b || c)
-cond_or true c = refl
-cond_or false c = refl
-
-not_not : (b : Bool) → false ≡ not b → b ≡ true
-not_not true e = refl
-not_not false e = e
 
 -- a set that took a position has it and those before
 in_more : (position : ℕ) (old new : BTreeSet ℕ) → UpdatesBy nat_cmp (nat_cmp position) old new true → (k : ℕ) → is_in new.keys k ≡ ((position == k) || is_in old.keys k)
@@ -69,7 +62,7 @@ noted_before position old new left updates known = record {
 }
   where
     there : is_in old.keys position ≡ true
-    there = sym (has_in old.keys position) ∙ not_not (contains nat_cmp old position) known
+    there = sym (has_in old.keys position) ∙ not_false (contains nat_cmp old position) known
 
     by_case : (k : ℕ) → ((position == k) ≡ true) ⊎ (is_in old.keys k ≡ true) → is_in old.keys k ≡ true
     by_case k (inl same) = subst (λ j. is_in old.keys j ≡ true) (eqb-true position k same) there
@@ -162,10 +155,10 @@ reference held n j k within lt is =
     option_and_then_some (position_referred (take n held)) (slice_get (take n held) j) k is (λ s at_s more.
     option_and_then_some (λ (id : List ℕ). position (λ (t : StoredStatement). bytes_eq t.id id) (take n held)) (target_of (view s.received)) k more (λ id target there.
     let found = position-Some (λ (t : StoredStatement). bytes_eq t.id id) (take n held) k s there in
-    by_place s id (get_or (take n held) k s) at_s target found.0 (slice_get-get_or (take n held) k s found.0) found.1))
+    by_index s id (get_or (take n held) k s) at_s target found.0 (slice_get-get_or (take n held) k s found.0) found.1))
   where
-    by_place : (s : StoredStatement) (id : List ℕ) (t : StoredStatement) → slice_get (take n held) j ≡ Some s → target_of (view s.received) ≡ Some id → k < length (take n held) → slice_get (take n held) k ≡ Some t → bytes_eq t.id id ≡ true → IsReference held j k
-    by_place s id t at_s target below at_t same =
+    by_index : (s : StoredStatement) (id : List ℕ) (t : StoredStatement) → slice_get (take n held) j ≡ Some s → target_of (view s.received) ≡ Some id → k < length (take n held) → slice_get (take n held) k ≡ Some t → bytes_eq t.id id ≡ true → IsReference held j k
+    by_index s id t at_s target below at_t same =
         let long : length (take n held) ≡ n = length-take-le n held within in
         record {
           one = s;

@@ -40,6 +40,6 @@ pub record AreAscending (sought : Sought) : Type 0 where
   pub filters : AllByRecursion (λ ks. IsAscending ks.now) sought.filters.items
 
 -- Of each statement that is held the lists tell whether it is seen, and whether it passes the filters by itself.
-pub record Tells (query : Query) (sight : Sight) (held : List StoredStatement) (sought : Sought) : Type 0 where
+pub record TellsSought (query : Query) (sight : Sight) (held : List StoredStatement) (sought : Sought) : Type 0 where
   pub seen : (k : ℕ) → (s : StoredStatement) → slice_get held k ≡ Some s → is_seen sought.seen k ≡ sees sight s
   pub passes : (k : ℕ) → (s : StoredStatement) → slice_get held k ≡ Some s → passes sought k ≡ direct query s

@@ -5,7 +5,7 @@ ghost use Rattle.xapi_index.specs.XapiPostingsAscending.{IsAscending, is_in};
 ghost use Rattle.xapi_index.specs.XapiQueryFilters.{direct, passes_activity, passes_agent, passes_registration, passes_verb};
 ghost use Rattle.xapi_index.specs.XapiQueryFilters.{sees};
 ghost use Rattle.xapi_search.specs.Narrowing.{AsksFor, EachAscends, ListsThose, Narrows, is_in_each, passes_key};
-ghost use Rattle.xapi_search.specs.Sought.{AreAscending, SeenAscends, Tells, is_seen, passes};
+ghost use Rattle.xapi_search.specs.Sought.{AreAscending, SeenAscends, TellsSought, is_seen, passes};
 ghost use Rattle.xapi_index.specs.XapiStatementShown.{takes_part};
 ghost use Rattle.xapi_index.specs.XapiStatementStatement.{has_activity};
 ghost use Rattle.xapi_index.specs.XapiStatementStored.{StoredStatement as SpecStatement};
@@ -48,7 +48,7 @@ impl<'a> Sought<'a> {
         query: &Query,
         sight: &Sight,
     ) -> Result<Sought<'a>, Memory>
-        ensures tells { IfOk result (λ sought. Tells query.now sight.now index.now.held sought) }
+        ensures tells { IfOk result (λ sought. TellsSought query.now sight.now index.now.held sought) }
         ensures ascending { IfOk result (λ sought. AreAscending sought) }
     {
         let filters = filters_of(alloc, index, query)?;

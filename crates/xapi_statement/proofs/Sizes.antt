@@ -1,5 +1,5 @@
 -- How long written forms are at most.
-use Rattle.std.proofs.Common.{◌≡◌, ◌≤◌, ◌+◌, ◌*◌, ℕ, List, [], ◌∷◌, ◌++◌, Bool, true, false, length, arith, length-append}
+use Rattle.std.proofs.Common.{◌≤◌, ◌+◌, ◌*◌, ℕ, List, [], ◌∷◌, Bool, true, false, length, arith, length-append}
 use Rattle.std.specs.Prelude.{nat_lt, if◌then◌else◌, ◌==◌}
 use Rattle.std.specs.List.{flat_map}
 use Rattle.lrs_json.specs.Written.{escaped, list_text, object_text, quoted}

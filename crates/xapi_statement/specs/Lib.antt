@@ -1,7 +1,7 @@
 pub use Rattle.xapi_properties.specs.Parties
 pub use Rattle.xapi_properties.specs.XapiRulesContexts as XapiRulesContexts
 pub use Rattle.xapi_properties.specs.XapiRulesNulls as XapiRulesNulls
-pub use Rattle.xapi_properties.specs.XapiRulesNullsRoleTheVariants as XapiRulesNullsRoleTheVariants
+pub use Rattle.xapi_properties.specs.XapiRulesNullsNullRoleTheVariants as XapiRulesNullsNullRoleTheVariants
 pub use Rattle.xapi_properties.specs.XapiRulesObjects as XapiRulesObjects
 pub use Rattle.xapi_properties.specs.XapiRulesRules as XapiRulesRules
 pub use Rattle.xapi_received.specs.XapiFormatAuthorities as XapiFormatAuthorities

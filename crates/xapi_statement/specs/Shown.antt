@@ -25,7 +25,7 @@ shown_text format held = written (shown_form format held)
 
 -- ---- who takes part
 
--- At one of the related places: the authority that the store gave it, the context, and those places of a SubStatement.
+-- In one of the related roles: the authority that the store gave it, the context, and those roles of a SubStatement.
 abbrev pub related_in : Ifi → StoredStatement → Bool
 related_in ifi held =
     is_party ifi (authority_json held.authority) || has_context_agent ifi (view held.received)

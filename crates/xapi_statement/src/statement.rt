@@ -101,15 +101,15 @@ impl Statement {
     }
 
     /// Whether who has that identifier takes part in it, as actor or object or as a member of one; with the related
-    /// places also as authority, instructor, team, and in a SubStatement.
+    /// roles also as authority, instructor, team, and in a SubStatement.
     pub fn has_agent(&self, ifi: &Ifi, related: bool) -> bool
         ensures { result ≡ has_agent ifi.now related (view self.now.tree) }
     {
         xapi_properties::has_agent(&self.tree, ifi, related)
     }
 
-    /// Whether its object is the Activity of that id; with the related places also whether its context activities, or
-    /// those places of a SubStatement, hold it.
+    /// Whether its object is the Activity of that id; with the related roles also whether its context activities, or
+    /// those of a SubStatement, hold it.
     pub fn has_activity(&self, id: &str, related: bool) -> bool
         ensures { result ≡ has_activity id.now related (view self.now.tree) }
     {

@@ -1,4 +1,4 @@
--- The keys of parties and activities: of none, of two places, and of the items of a list.
+-- The keys of parties and activities: of none, of two roles, and of the items of a list.
 use Rattle.std.proofs.Common.{◌≡◌, ℕ, ◌+◌, ◌<◌, ◌≤◌, List, length, drop, map, slice_index_or, Bool, true, false, ◌&&◌, ◌||◌, Option, Some, None, codes, option_and_then, if◌then◌else◌, refl, sym, ap, ◌∙◌}
 use Rattle.std.proofs.Math.Bool.{and-false, and-or_distrib_left, or-false}
 use Rattle.std.proofs.lemmas.List.{at_drop_all}
@@ -11,8 +11,8 @@ use Rattle.lrs_json.specs.Find.{find}
 use Rattle.lrs_json.specs.Json.{Json, null, boolean, number, string, array, object, Elements}
 use Rattle.lrs_json.specs.View.{elements_of, view}
 use Rattle.lrs_json.specs.declared.tree.Tree.{Tree}
-use Rattle.lrs_json.specs.Parts.{items_of}
-use Rattle.lrs_names.specs.Members.{is_word, text_of}
+use Rattle.lrs_json.specs.Parts.{items_of, text_in}
+use Rattle.lrs_names.specs.Members.{is_word}
 use Rattle.xapi_query.specs.XapiFormatParty.{any_identified, is_identified}
 use Rattle.xapi_query.specs.XapiRulesRules.{is_about_activity}
 use Rattle.xapi_query.specs.XapiStatementStatement.{activity_in, any_activity_of, context_holds, holds_activity, holds_at, is_activity_of}
@@ -38,7 +38,7 @@ pub more_agents : (direct : Bool) (p q : Ifi → Bool) (old mid new : List Key) 
 more_agents direct p q old mid new first second =
     adds_both old mid new (agent_keys direct p) (agent_keys direct q) (agent_keys direct (λ ifi. p ifi || q ifi)) (agents_or direct p q) first second
 
--- the plain key, at a direct place, and the related one
+-- the plain key, in a direct role, and the related one
 pub agent_split : (direct : Bool) (ifi : Ifi) (k : Key) → agent_keys direct (λ other. same_ifi other ifi) k ≡ ((direct && same_parts (key.Agent ifi) k) || same_parts (key.RelatedAgent ifi) k)
 agent_split direct ifi (key.Agent other) = ap (λ b. direct && b) (ifi_sym other ifi) ∙ sym (or-false (direct && same_ifi ifi other))
 agent_split direct ifi (key.RelatedAgent other) = ifi_sym other ifi ∙ sym (ap (λ b. b || same_ifi ifi other) (and-false direct))
@@ -88,7 +88,7 @@ activity_split direct id _ = sym (ap (λ b. b || false) (and-false direct))
 abbrev pub is_id_in : Option (List ℕ) → List ℕ → Bool
 is_id_in o id = option_map_or (λ own. bytes_eq own id) o false
 
-word_in : (about : Bool) (o : Option Json) (id : List ℕ) → (about && option_map_or (is_word id) o false) ≡ is_id_in (if about then option_and_then text_of o else None) id
+word_in : (about : Bool) (o : Option Json) (id : List ℕ) → (about && option_map_or (is_word id) o false) ≡ is_id_in (if about then option_and_then text_in o else None) id
 word_in false o id = refl
 word_in true None id = refl
 word_in true (Some null) id = refl

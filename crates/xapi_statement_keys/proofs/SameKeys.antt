@@ -1,13 +1,10 @@
 -- Keys that their order doesn't tell apart have the same parts, and are one.
 use Rattle.std.proofs.Common.{rules, ◌≡◌, ℕ, List, true, eq-eqb, eqb-true, refl, sym, ap, ◌∙◌}
-use Rattle.std.specs.Str.{bytes_eq}
-use Rattle.std.proofs.lemmas.Bool.{false≢true, and_from, and_parts}
-use Rattle.std.proofs.lemmas.Slice.Eq.{bytes_eq-Decides}
+use Rattle.std.proofs.lemmas.Bool.{false≢true}
 use Rattle.std.specs.Cmp.{both_ways}
-use Rattle.lrs_agents.proofs.SameAgents.{same_agents}
+use Rattle.lrs_agents.proofs.SameAgents.{bytes_same, ifi_same, same_agents, same_bytes, same_ifis}
 use Rattle.lrs_agents.specs.Identifiers.{same_ifi}
 use Rattle.lrs_agents.specs.declared.identifiers.Ifi.{Ifi}
-use Rattle.lrs_agents.specs.declared.identifiers.Ifi.TheVariants.{Mbox, MboxSha1, OpenId, Account}
 use Rattle.lrs_agents.specs.contracts.identifiers.IfiPartialEq.TheImpl as ifi_eq
 use Rattle.xapi_statement_keys.specs.Adding.{same_parts}
 use Rattle.xapi_statement_keys.specs.Keys.{SameKeysAreOne, is_same_key}
@@ -85,27 +82,6 @@ pub by_parts : (a b : Key) → is_same_key a b ≡ same_parts a b
 by_parts a b = sym (matches_eq-law a b) ∙ same_by_parts a b
 
 -- ---- the same parts are of one key
-
-same_bytes : (a b : List ℕ) → bytes_eq a b ≡ true → a ≡ b
-same_bytes a b e = (bytes_eq-Decides a b).0 e
-
-bytes_same : (a : List ℕ) → bytes_eq a a ≡ true
-bytes_same a = (bytes_eq-Decides a a).1 refl
-
-same_ifis : (a b : Ifi) → same_ifi a b ≡ true → a ≡ b
-same_ifis (Mbox a) (Mbox b) e = ap Mbox (same_bytes a b e)
-same_ifis (MboxSha1 a) (MboxSha1 b) e = ap MboxSha1 (same_bytes a b e)
-same_ifis (OpenId a) (OpenId b) e = ap OpenId (same_bytes a b e)
-same_ifis (Account h n) (Account g m) e =
-    let both : (bytes_eq h g ≡ true) × (bytes_eq n m ≡ true) = and_parts (bytes_eq h g) (bytes_eq n m) e in
-    ap (λ z. Account z n) (same_bytes h g both.0) ∙ ap (Account g) (same_bytes n m both.1)
-same_ifis _ _ e = absurd (false≢true e)
-
-ifi_same : (a : Ifi) → same_ifi a a ≡ true
-ifi_same (Mbox a) = bytes_same a
-ifi_same (MboxSha1 a) = bytes_same a
-ifi_same (OpenId a) = bytes_same a
-ifi_same (Account h n) = and_from (bytes_eq h h) (bytes_eq n n) (bytes_same h) (bytes_same n)
 
 parts_same : (k : Key) → same_parts k k ≡ true
 parts_same (key.Statement a) = bytes_same a

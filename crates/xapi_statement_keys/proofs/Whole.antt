@@ -20,12 +20,12 @@ use Rattle.xapi_query.specs.XapiRulesRules.{is_voiding}
 use Rattle.xapi_query.specs.XapiStatementParties.{has_context_agent, has_direct_agent, is_party_object, nested_has_agent}
 use Rattle.xapi_query.specs.XapiStatementStatement.{has_activity, has_some_context_activity, is_about, is_activity_of, nested_has_activity, registration_of, target_of, verb_of}
 use Rattle.xapi_query.specs.XapiStatementStored.{StoredStatement}
-use Rattle.xapi_statement_keys.specs.Adding.{agent_keys, authority_keys, named_keys, object_keys, own_keys, place_keys, provider_in, provider_keys, reference_keys, registration_keys, same_parts}
+use Rattle.xapi_statement_keys.specs.Adding.{agent_keys, authority_keys, named_keys, object_keys, own_keys, role_keys, provider_in, provider_keys, reference_keys, registration_keys, same_parts}
 use Rattle.xapi_statement_keys.specs.Keys.{has_key}
 use Rattle.xapi_statement_keys.specs.declared.key.Key.{Key}
 use Rattle.xapi_statement_keys.specs.declared.key.Key.TheVariants as key
 
--- ---- places
+-- ---- roles
 
 plain : (a o : Bool) → (a || o) ≡ ((a || (o || false)) || false)
 plain true o = refl
@@ -41,17 +41,17 @@ related false false false true = refl
 related false false false false = refl
 
 -- the actor, the object, and the context
-pub place_split : (j : Json) (k : Key)
-    → place_keys j k ≡ ((agent_keys true (λ ifi. has_member_that (codes "actor") (is_party ifi) j) k || object_keys (find (codes "object") j) k)
+pub role_split : (j : Json) (k : Key)
+    → role_keys j k ≡ ((agent_keys true (λ ifi. has_member_that (codes "actor") (is_party ifi) j) k || object_keys (find (codes "object") j) k)
     || named_keys false (λ ifi. has_context_agent ifi j) (λ id. has_some_context_activity id j) k)
 unfolding has_direct_agent is_about
-place_split j (key.Agent ifi) = plain (has_member_that (codes "actor") (is_party ifi) j) (has_member_that (codes "object") (is_party_object ifi) j)
-place_split j (key.RelatedAgent ifi) =
+role_split j (key.Agent ifi) = plain (has_member_that (codes "actor") (is_party ifi) j) (has_member_that (codes "object") (is_party_object ifi) j)
+role_split j (key.RelatedAgent ifi) =
     related (has_member_that (codes "actor") (is_party ifi) j) (has_member_that (codes "object") (is_party_object ifi) j) (has_member_that (codes "object") (nested_has_agent ifi) j) (has_context_agent ifi j)
-place_split j (key.Activity id) = plain false (has_member_that (codes "object") (is_activity_of id) j)
-place_split j (key.RelatedActivity id) =
+role_split j (key.Activity id) = plain false (has_member_that (codes "object") (is_activity_of id) j)
+role_split j (key.RelatedActivity id) =
     related false (has_member_that (codes "object") (is_activity_of id) j) (has_member_that (codes "object") (nested_has_activity id) j) (has_some_context_activity id j)
-place_split j _ = refl
+role_split j _ = refl
 
 -- ---- the authority
 
@@ -121,7 +121,7 @@ with_authority false false false true = refl
 with_authority false false false false = refl
 
 pub whole_split : (s : StoredStatement) (k : Key)
-    → has_key k s ≡ ((own_keys s k || (place_keys (view s.received) k || authority_keys s.authority k)) || reference_keys (is_voiding (view s.received)) (target_of (view s.received)) k)
+    → has_key k s ≡ ((own_keys s k || (role_keys (view s.received) k || authority_keys s.authority k)) || reference_keys (is_voiding (view s.received)) (target_of (view s.received)) k)
 unfolding has_activity
 whole_split s (key.Statement id) = plain false (bytes_eq s.id id)
 whole_split s (key.Verb id) = plain false (bytes_eq (verb_of (view s.received)) id)

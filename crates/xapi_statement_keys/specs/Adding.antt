@@ -12,8 +12,10 @@ use Rattle.xapi_query.specs.XapiFormatParty.{is_party}
 use Rattle.xapi_query.specs.XapiFormatAuthorityAuthority.{Authority}
 use Rattle.xapi_query.specs.XapiFormatAuthorityAuthorityTheVariants as authority
 use Rattle.xapi_query.specs.Filters.{is_of_provider, is_registered}
-use Rattle.xapi_query.specs.XapiStatementParties.{has_context_agent, has_direct_agent, is_party_object, nested_has_agent}
-use Rattle.xapi_query.specs.XapiStatementStatement.{context_holds, has_some_context_activity, holds_at, is_about, is_activity_of}
+use Rattle.xapi_query.specs.XapiStatementParties.{has_context_agent, has_direct_agent}
+use Rattle.xapi_query.specs.XapiStatementParties.{is_party_object, nested_has_agent}
+use Rattle.xapi_query.specs.XapiStatementStatement.{context_holds, has_some_context_activity}
+use Rattle.xapi_query.specs.XapiStatementStatement.{holds_at, is_about, is_activity_of}
 use Rattle.xapi_query.specs.XapiStatementStatement.{nested_has_activity, verb_of}
 use Rattle.xapi_query.specs.XapiStatementStored.{StoredStatement}
 use Rattle.xapi_statement_keys.specs.Keys.{is_among}
@@ -39,7 +41,7 @@ same_parts (key.Voiding a) (key.Voiding b) = bytes_eq a b
 same_parts key.AnyReference key.AnyReference = true
 same_parts _ _ = false
 
--- ---- places: what stands at a direct one has the plain key and the related one, at another the related one alone
+-- ---- roles: what stands in a direct one has the plain key and the related one, in another the related one alone
 
 -- the keys of parties
 abbrev pub agent_keys : Bool → (Ifi → Bool) → Key → Bool
@@ -73,7 +75,7 @@ context_holds_some id j =
     context_holds (codes "parent") id j || context_holds (codes "grouping") id j
     || context_holds (codes "category") id j || context_holds (codes "other") id j
 
--- the keys by the object, if there is one: a SubStatement's places are related ones
+-- the keys by the object, if there is one: a SubStatement's roles are related ones
 abbrev pub object_keys : Option Json → Key → Bool
 object_keys o k =
     named_keys true (λ ifi. option_map_or (is_party_object ifi) o false)
@@ -82,16 +84,16 @@ object_keys o k =
     (λ id. option_map_or (nested_has_activity id) o false) k
 
 -- the keys of the parties and activities of a statement, but for its authority
-abbrev pub place_keys : Json → Key → Bool
-place_keys j (key.Agent ifi) = has_direct_agent ifi j
-place_keys j (key.RelatedAgent ifi) =
+abbrev pub role_keys : Json → Key → Bool
+role_keys j (key.Agent ifi) = has_direct_agent ifi j
+role_keys j (key.RelatedAgent ifi) =
     has_direct_agent ifi j
     || (has_context_agent ifi j || has_member_that (codes "object") (nested_has_agent ifi) j)
-place_keys j (key.Activity id) = is_about id j
-place_keys j (key.RelatedActivity id) =
+role_keys j (key.Activity id) = is_about id j
+role_keys j (key.RelatedActivity id) =
     is_about id j
     || (has_some_context_activity id j || has_member_that (codes "object") (nested_has_activity id) j)
-place_keys j _ = false
+role_keys j _ = false
 
 -- ---- the authority
 

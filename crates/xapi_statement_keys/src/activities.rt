@@ -10,7 +10,7 @@ use crate::adding::push;
 use crate::reading::{activity_in, items_in};
 use lrs_json::{Memory, Text, Tree};
 
-// The keys of the Activity of that id, at a direct place or at a related one.
+// The keys of the Activity of that id, in a direct role or in a related one.
 fn push_id(keys: &mut Vec<Key>, id: &Text, direct: bool) -> Result<(), Memory>
     ensures { OnOk result (Adds keys.old.items keys.new.items
         (activity_keys direct (λ other. bytes_eq id.now other))) }
@@ -19,7 +19,7 @@ fn push_id(keys: &mut Vec<Key>, id: &Text, direct: bool) -> Result<(), Memory>
     push(keys, Key::RelatedActivity(id.clone()?))
 }
 
-// The plain key, at a direct place.
+// The plain key, in a direct role.
 fn push_plain_id(keys: &mut Vec<Key>, id: &Text, direct: bool) -> Result<(), Memory>
     ensures { OnOk result (Adds keys.old.items keys.new.items
         (λ k. direct && same_parts (Key.Activity id.now) k)) }

@@ -13,11 +13,11 @@ pub enum Key {
     Verb(Text),
     /// The id of the Activity that is its object, an IRI.
     Activity(Text),
-    /// The same, or that of an activity at one of the related places.
+    /// The same, or that of an activity in one of the related roles.
     RelatedActivity(Text),
     /// The identifier of who takes part in it as actor or object, or as a member of one.
     Agent(Ifi),
-    /// The same, or that of who takes part at one of the related places, its authority among them.
+    /// The same, or that of who takes part in one of the related roles, its authority among them.
     RelatedAgent(Ifi),
     /// The registration of its context.
     Registration(Id),

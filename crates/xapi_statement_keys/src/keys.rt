@@ -2,14 +2,14 @@ ghost use Rattle.std.specs.Prelude.{◌≡◌, ◌&&◌, ◌||◌, IfOk, OnOk, S
 ghost use Rattle.lrs_json.specs.View.{view};
 ghost use Rattle.xapi_query.specs.XapiRulesRules.{is_voiding};
 ghost use Rattle.xapi_query.specs.XapiStatementStatement.{target_of};
-ghost use Rattle.xapi_statement_keys.specs.Adding.{Adds, authority_keys, own_keys, place_keys, reference_keys, registration_keys, same_parts};
+ghost use Rattle.xapi_statement_keys.specs.Adding.{Adds, authority_keys, own_keys, role_keys, reference_keys, registration_keys, same_parts};
 ghost use Rattle.xapi_statement_keys.specs.Keys.{SameKeysAreOne, has_key, is_among};
 ghost use Rattle.xapi_statement_keys.specs.declared.key.Key.{Key as SpecKey};
 
 use crate::Key;
 use crate::adding::push;
 use crate::authority::push_authority;
-use crate::places::push_places;
+use crate::roles::push_roles;
 use lrs_json::{Memory, Text};
 use lrs_names::Id;
 use std::alloc::Global;
@@ -48,9 +48,9 @@ fn push_keys(keys: &mut Vec<Key>, statement: &StoredStatement) -> Result<(), Mem
 // Who takes part, and which activities it speaks of.
 fn push_named(keys: &mut Vec<Key>, statement: &StoredStatement) -> Result<(), Memory>
     ensures { OnOk result (Adds keys.old.items keys.new.items
-        (λ k. place_keys (view statement.now.received) k || authority_keys statement.now.authority k)) }
+        (λ k. role_keys (view statement.now.received) k || authority_keys statement.now.authority k)) }
 {
-    push_places(keys, statement.received())?;
+    push_roles(keys, statement.received())?;
     push_authority(keys, statement.authority())
 }
 

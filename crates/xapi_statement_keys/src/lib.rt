@@ -8,8 +8,8 @@ mod authority;
 mod key;
 mod keys;
 mod parties;
-mod places;
 mod reading;
+mod roles;
 
 pub use key::Key;
 pub use keys::{Keys, law_of_keys};

@@ -12,7 +12,7 @@ use crate::reading::items_in;
 use lrs_agents::Ifi;
 use lrs_json::{Memory, Tree};
 
-/// The keys of who has that identifier, at a direct place or at a related one.
+/// The keys of who has that identifier, in a direct role or in a related one.
 pub fn push_agent(keys: &mut Vec<Key>, ifi: Ifi, direct: bool) -> Result<(), Memory>
     ensures { OnOk result (Adds keys.old.items keys.new.items (agent_keys direct (λ other. same_ifi other ifi))) }
 {
@@ -20,7 +20,7 @@ pub fn push_agent(keys: &mut Vec<Key>, ifi: Ifi, direct: bool) -> Result<(), Mem
     push(keys, Key::RelatedAgent(ifi))
 }
 
-// The plain key, at a direct place.
+// The plain key, in a direct role.
 fn push_plain_agent(keys: &mut Vec<Key>, ifi: &Ifi, direct: bool) -> Result<(), Memory>
     ensures { OnOk result (Adds keys.old.items keys.new.items (λ k. direct && same_parts (Key.Agent ifi.now) k)) }
 {

@@ -100,7 +100,7 @@ fn a_voiding_statement_tells_what_it_refers_to(rt: HostRuntime) -> Result<(), Fa
     Ok(())
 }
 
-// A statement, a mailbox, and whether it is found at the direct places and with the related ones.
+// A statement, a mailbox, and whether it is found in the direct roles and with the related ones.
 const AGENTS: [(&str, &str, (bool, bool)); 9] = [
     (WHOLE, "mailto:team@example.com", (true, true)),
     (WHOLE, "mailto:i@example.com", (false, true)),
@@ -113,8 +113,8 @@ const AGENTS: [(&str, &str, (bool, bool)); 9] = [
     (ABOUT_AGENT, "mailto:c@d", (true, true)),
 ];
 
-// Where a statement has who has that mailbox: at the direct places, and with the related ones.
-fn mailbox_places(alloc: Global, statement: &Statement, mail: &str) -> Result<(bool, bool), Fail> {
+// Where a statement has who has that mailbox: in the direct roles, and with the related ones.
+fn mailbox_roles(alloc: Global, statement: &Statement, mail: &str) -> Result<(bool, bool), Fail> {
     let ifi = mailbox(alloc, mail)?;
     Ok((
         statement.has_agent(&ifi, false),
@@ -122,9 +122,9 @@ fn mailbox_places(alloc: Global, statement: &Statement, mail: &str) -> Result<(b
     ))
 }
 
-fn agent_places(alloc: Global, text: &str, mail: &str) -> Result<(bool, bool), Fail> {
+fn agent_roles(alloc: Global, text: &str, mail: &str) -> Result<(bool, bool), Fail> {
     let statement = statement(alloc, text)?;
-    mailbox_places(alloc, &statement, mail)
+    mailbox_roles(alloc, &statement, mail)
 }
 
 // The number of the first row that isn't so.
@@ -132,8 +132,8 @@ fn first_agent_wrong(
     alloc: Global,
     rows: &[(&str, &str, (bool, bool))],
 ) -> Result<Option<usize>, Fail> {
-    for (i, (text, mail, places)) in rows.iter().enumerate() {
-        if agent_places(alloc, text, mail)? != *places {
+    for (i, (text, mail, roles)) in rows.iter().enumerate() {
+        if agent_roles(alloc, text, mail)? != *roles {
             return Ok(Some(i));
         }
     }
@@ -141,12 +141,12 @@ fn first_agent_wrong(
 }
 
 #[test]
-fn agents_are_found_at_their_places(rt: HostRuntime) -> Result<(), Fail> {
+fn agents_are_found_in_their_roles(rt: HostRuntime) -> Result<(), Fail> {
     assert_eq!(rt; first_agent_wrong(rt.alloc(), &AGENTS)?, None);
     Ok(())
 }
 
-// A statement, an id, and whether its Activity is found at the direct places and with the related ones.
+// A statement, an id, and whether its Activity is found in the direct roles and with the related ones.
 const ACTIVITIES: [(&str, &str, (bool, bool)); 8] = [
     (WHOLE, "http://www.example.com/meetings/34534", (true, true)),
     (WHOLE, "http://p/1", (false, true)),
@@ -162,7 +162,7 @@ const ACTIVITIES: [(&str, &str, (bool, bool)); 8] = [
     ),
 ];
 
-fn activity_places(alloc: Global, text: &str, id: &str) -> Result<(bool, bool), Fail> {
+fn activity_roles(alloc: Global, text: &str, id: &str) -> Result<(bool, bool), Fail> {
     let statement = statement(alloc, text)?;
     Ok((
         statement.has_activity(id, false),
@@ -175,8 +175,8 @@ fn first_activity_wrong(
     alloc: Global,
     rows: &[(&str, &str, (bool, bool))],
 ) -> Result<Option<usize>, Fail> {
-    for (i, (text, id, places)) in rows.iter().enumerate() {
-        if activity_places(alloc, text, id)? != *places {
+    for (i, (text, id, roles)) in rows.iter().enumerate() {
+        if activity_roles(alloc, text, id)? != *roles {
             return Ok(Some(i));
         }
     }
@@ -184,13 +184,13 @@ fn first_activity_wrong(
 }
 
 #[test]
-fn activities_are_found_at_their_places(rt: HostRuntime) -> Result<(), Fail> {
+fn activities_are_found_in_their_roles(rt: HostRuntime) -> Result<(), Fail> {
     assert_eq!(rt; first_activity_wrong(rt.alloc(), &ACTIVITIES)?, None);
     Ok(())
 }
 
 // Which of the two activities stand among the categories and the groupings.
-fn context_places(whole: &Statement) -> [bool; 4] {
+fn context_roles(whole: &Statement) -> [bool; 4] {
     [
         whole.category("http://c/1"),
         whole.category("http://g/1"),
@@ -202,9 +202,9 @@ fn context_places(whole: &Statement) -> [bool; 4] {
 #[test]
 fn categories_and_groupings_are_told_apart(rt: HostRuntime) -> Result<(), Fail> {
     let whole = statement(rt.alloc(), WHOLE)?;
-    let places = context_places(&whole);
+    let roles = context_roles(&whole);
     drop(whole);
-    assert!(rt; places == [true, false, false, true]);
+    assert!(rt; roles == [true, false, false, true]);
     Ok(())
 }
 

@@ -7,7 +7,7 @@ use lrs_names::is_word;
 /// What a value says that it is, by its `objectType` (xAPI 1.0.3, part two, section 2.4.4).
 #[derive(Clone, Copy, Debug, PartialEq, Eq)]
 pub enum Kind {
-    /// No `objectType` stands: an Agent or an Activity, by its place.
+    /// No `objectType` stands: an Agent or an Activity, by its role.
     Unstated,
     /// The word `Activity`.
     Activity,
@@ -37,7 +37,7 @@ impl Kind {
         }
     }
 
-    /// Whether it is an Activity at a place where an Activity may stand and no Agent without an `objectType`: the
+    /// Whether it is an Activity in a role that an Activity may have and no Agent without an `objectType`: the
     /// object of a statement, or context activities.
     pub fn is_activity(self) -> bool
         ensures { result ≡ is_activity_kind self }

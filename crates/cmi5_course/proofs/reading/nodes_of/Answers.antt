@@ -5,7 +5,8 @@ use Rattle.lrs_names.specs.Rules.{least}
 use Rattle.cmi5_course.specs.SpelledNodes.{seen}
 use Rattle.cmi5_course.specs.Rules.{node_faults}
 use Rattle.cmi5_course.specs.Courses.{node_of}
-use Rattle.cmi5_course.proofs.Lists.{drop_item, one_more_node}
+use Rattle.lrs_json.proofs.Lists.{drop_item}
+use Rattle.cmi5_course.proofs.Lists.{one_more_node}
 use Rattle.cmi5_course.proofs.Unbroken.{more_unbroken}
 use Rattle.cmi5_course.proofs.reading.nodes_of.Goals as goal
 

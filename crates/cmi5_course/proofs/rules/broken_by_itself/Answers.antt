@@ -2,7 +2,8 @@ use Rattle.std.proofs.Common.{◌+◌, map, drop, ap}
 use Rattle.std.specs.List.{flat_map}
 use Rattle.cmi5_course.specs.SpelledNodes.{seen}
 use Rattle.cmi5_course.specs.Rules.{node_faults}
-use Rattle.cmi5_course.proofs.Lists.{drop_item, one_more}
+use Rattle.lrs_json.proofs.Lists.{drop_item}
+use Rattle.lrs_names.proofs.RuleLemmas.{one_more}
 use Rattle.cmi5_course.proofs.rules.broken_by_itself.Goals as goal
 
 pub loop-node-preserved : goal.loop-node-preserved

@@ -4,7 +4,7 @@ use Rattle.std.specs.Option.{option_to_list}
 use Rattle.lrs_json.proofs.Sets.{name_new}
 use Rattle.cmi5_course.specs.SpelledNodes.{seen}
 use Rattle.cmi5_course.specs.Rules.{ids_of}
-use Rattle.cmi5_course.proofs.Lists.{drop_item}
+use Rattle.lrs_json.proofs.Lists.{drop_item}
 use Rattle.cmi5_course.proofs.rules.have_distinct_ids.Goals as goal
 
 pub loop-node-preserved : goal.loop-node-preserved

@@ -5,7 +5,7 @@ use Rattle.std.specs.List.{after_first}
 use Rattle.std.proofs.lemmas.Str.Pattern.{split_parts}
 use Rattle.lrs_names.specs.Iris.{has_some}
 use Rattle.cmi5_launch.specs.Addresses.{is_question_mark}
-use Rattle.cmi5_launch.proofs.Places.{none_stands}
+use Rattle.cmi5_launch.proofs.FirstBytes.{none_stands}
 use Rattle.cmi5_launch.proofs.addresses.joint.Goals as goal
 
 pub returns-in-None : goal.returns-in-None

@@ -15,7 +15,7 @@ returns c =
     ap (λ v. codes "&registration=" ++ escaped v) c.text.ensures.text in
     let activity : codes "&activityId=" ++ escaped c.as_bytes.result.now ≡ codes "&activityId=" ++ escaped c.args.activity.now =
     ap (λ v. codes "&activityId=" ++ escaped v) (c.as_bytes.ensures.lent ∙ c.text-2.ensures.lent) in
-    joined (string_bytes c.new-pairs.result) (string_bytes c.put_places.new.pairs) (string_bytes c.put_actor.new.pairs) (string_bytes c.put_pair.new.pairs) (string_bytes c.put_pair-2.new.pairs)
+    joined (string_bytes c.new-pairs.result) (string_bytes c.put_addresses.new.pairs) (string_bytes c.put_actor.new.pairs) (string_bytes c.put_pair.new.pairs) (string_bytes c.put_pair-2.new.pairs)
     (codes "endpoint=" ++ escaped (base ++ codes "xapi/")) (codes "&fetch=" ++ escaped (base ++ codes "fetch/" ++ c.args.key.now)) (codes "&actor=" ++ escaped (written (agent_json c.args.actor.now)))
-    (codes "&registration=" ++ escaped (id_text c.args.registration.now)) (codes "&activityId=" ++ escaped c.args.activity.now) c.new-pairs.ensures.bytes c.in_ok-put_places.ensures c.in_ok-put_actor.ensures
+    (codes "&registration=" ++ escaped (id_text c.args.registration.now)) (codes "&activityId=" ++ escaped c.args.activity.now) c.new-pairs.ensures.bytes c.in_ok-put_addresses.ensures c.in_ok-put_actor.ensures
     (c.in_ok-put_pair.ensures ∙ ap (λ v. string_bytes c.put_actor.new.pairs ++ v) registration) (c.in_ok-put_pair-2.ensures ∙ ap (λ v. string_bytes c.put_pair.new.pairs ++ v) activity)

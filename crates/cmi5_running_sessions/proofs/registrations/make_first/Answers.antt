@@ -1,5 +1,5 @@
 use Rattle.std.proofs.Common.{◌∙◌, [], Some, inl, is_some, refl, sym, ap}
-use Rattle.cmi5_running_sessions.specs.Entries.{UnitsByRegistration, unit_at}
+use Rattle.cmi5_running_sessions.specs.Maps.{UnitsByRegistration, unit_at}
 use Rattle.std.specs.Map.{lookup}
 use Rattle.cmi5_running_sessions.specs.Kept.{is_same}
 use Rattle.cmi5_running_sessions.proofs.Altering.{added_filled, here, same_key, unit_made}

@@ -1,17 +1,17 @@
 use Rattle.std.proofs.Common.{◌<◌, ◌∙◌, ◌+◌, sym, subst, arith}
-use Rattle.lrs_ids.proofs.Turns.{turn}
 use Rattle.cmi5_verdict.specs.Nodes.{seen}
 use Rattle.cmi5_verdict.specs.Said.{said_of}
 use Rattle.cmi5_verdict.specs.Statements.{all_of}
 use Rattle.cmi5_verdict.proofs.Spoken.{said_end, said_next}
 use Rattle.cmi5_verdict.proofs.said.note_each.Goals as goal
+use Rattle.lrs_json.proofs.Lists.{drop_item}
 
 pub loop-statement-preserved : goal.loop-statement-preserved
 loop-statement-preserved c =
     let at = c.loop-statement in
     let those = c.args.those.now in
     let x = c.statement-item.result in
-    let next = turn those at.statement-index x (omega arith) c.statement-item.is in
+    let next = drop_item those at.statement-index x (omega arith) c.statement-item.is in
     record {
       long = c.note.ensures.long ∙ at.invariant.long;
       noted = λ k lt small.

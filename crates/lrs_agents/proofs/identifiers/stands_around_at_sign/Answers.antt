@@ -1,4 +1,4 @@
--- `rfind` gives the place of the last at sign.
+-- `rfind` gives the index of the last at sign.
 use Rattle.std.proofs.Common.{Some, None, sym, lit<}
 use Rattle.std.proofs.lemmas.Str.Pattern.{rfind_char}
 use Rattle.lrs_agents.proofs.AtSigns.{around_at, around_start, around_none}

@@ -1,9 +1,10 @@
 use Rattle.std.proofs.Common.{inl, refl}
 use Rattle.lrs_hall.specs.LrsMachineDesk.{history}
 use Rattle.lrs_app.proofs.Batches.{batch_lawful, batch_says}
-use Rattle.lrs_app.proofs.Loading.{on_ok, posted_next}
+use Rattle.lrs_app.proofs.Loading.{posted_next}
 use Rattle.lrs_app.proofs.Running.{same_doors}
 use Rattle.lrs_app.proofs.load.load_next.Goals as goal
+use Rattle.xapi_index.proofs.Succeeding.{given_ok}
 
 pub post_batch-requires-clause-lawful : goal.post_batch-requires-clause-lawful
 post_batch-requires-clause-lawful g c =
@@ -24,7 +25,7 @@ returns-in-Ok-clause-next g c =
     c.next-draw.ensures.drawn c.next-draw.ensures.moved c.now-clock.ensures.read c.in-Ok.ensures.made c.post_batch.ensures.goes_on c.post_batch.ensures.ends
 
 pub returns-in-Ok-clause-moved : goal.returns-in-Ok-clause-moved
-returns-in-Ok-clause-moved g c = on_ok c.post_batch.result c.in-Ok.ensures.moved
+returns-in-Ok-clause-moved g c = given_ok c.post_batch.result c.in-Ok.ensures.moved
 
 pub returns-in-Ok-clause-doors : goal.returns-in-Ok-clause-doors
 returns-in-Ok-clause-doors g c = same_doors c.now-clock.ensures.asked_kept c.now-clock.ensures.returned_kept c.now-clock.ensures.same

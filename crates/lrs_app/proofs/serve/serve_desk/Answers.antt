@@ -1,4 +1,4 @@
-use Rattle.std.proofs.Common.{arith, ◌≡◌, true, map, inr, ap, ◌∙◌}
+use Rattle.std.proofs.Common.{◌≡◌, true, map, inr, ap, ◌∙◌}
 use Rattle.lrs_app.specs.Service.{ending_of_serving}
 use Rattle.lrs_app.proofs.Openings.{still_goes}
 use Rattle.lrs_app.proofs.Serving.{begun_later, had_doors, of_all, of_none, served_begins, went_on}

@@ -1,13 +1,13 @@
 use Rattle.std.proofs.Common.{ℕ, arith}
 use Rattle.std.specs.Fmt.{decimal}
 use Rattle.lrs_decimal.specs.Numbers.{IsNumber}
-use Rattle.lrs_fields.specs.Reading.{IsKept}
+use Rattle.lrs_fields.specs.Reading.{IsKeptValue}
 use Rattle.lrs_fields.specs.Values.{number_value}
 use Rattle.lrs_fields.proofs.FieldValues.{IsNumber-decimal, no_number, numbered}
 use Rattle.lrs_fields.proofs.Sequences.{after_word, failed, no_word}
 use Rattle.lrs_fields.proofs.fields.number_behind.Goals as goal
 
-is_number : (n : ℕ) → IsKept number_value n → IsNumber (decimal n)
+is_number : (n : ℕ) → IsKeptValue number_value n → IsNumber (decimal n)
 is_number n is = IsNumber-decimal n (omega (arith, is.0))
 
 pub returns-in_err-word : goal.returns-in_err-word

@@ -1,16 +1,16 @@
 use Rattle.std.proofs.Common.{◌≤◌, sym, subst, length, arith, true, false}
 use Rattle.lrs_http.specs.declared.heads.Prospect.TheVariants as prospect
 use Rattle.lrs_http.specs.declared.request.RequestRefused.{RequestRefused}
-use Rattle.lrs_http.specs.Head.{most_fields}
 use Rattle.lrs_http.specs.Prospect.{IsJudged}
 use Rattle.lrs_http.specs.Stream.{window}
 use Rattle.lrs_http.proofs.FrontLemmas.{seen, head_at, crowded, judged, now}
 use Rattle.lrs_http.proofs.heads.judge.Goals as goal
+use Rattle.lrs_http.specs.declared.heads.TheConstants.{MOST_FIELDS}
 
 pub returns-in-Whole-clause-head : goal.returns-in-Whole-clause-head
 returns-in-Whole-clause-head c =
     let known = seen c.args.bytes.now c.window_of.result.now c.examine.new.fields c.in_ok-spans.field-0 (prospect.Whole c.in-Whole.spans) c.window_of.ensures.value c.in-Whole.is c.in_ok-spans.ensures in
-    let room : length c.examine.new.fields ≤ most_fields = omega (arith, c.examine.array_long) in
+    let room : length c.examine.new.fields ≤ MOST_FIELDS = omega (arith, c.examine.array_long) in
     head_at c.args.bytes.now c.examine.new.fields c.in-Whole.spans known.1.0 room known.0 known.1.1
 
 pub returns-in-Crowded-clause-refused : goal.returns-in-Crowded-clause-refused

@@ -1,7 +1,7 @@
 use Rattle.std.proofs.Common.{◌-◌, ◌≡◌, vec_len}
 use Rattle.lrs_http.specs.Links.{stream_left}
-use Rattle.lrs_http.specs.Stream.{longest_head}
 use Rattle.lrs_http.proofs.reading.read_head.Given as goal
+use Rattle.lrs_http.specs.declared.heads.TheConstants.{LONGEST_HEAD}
 
 abbrev pub invariant-loop-search : goal.invariant-loop-search
 invariant-loop-search g l = record {
@@ -13,4 +13,4 @@ invariant-loop-search g l = record {
 }
 
 abbrev pub decreases-loop-search : goal.decreases-loop-search
-decreases-loop-search g l = longest_head - vec_len l.kept
+decreases-loop-search g l = LONGEST_HEAD - vec_len l.kept

@@ -8,9 +8,10 @@ use Rattle.lrs_http.specs.declared.request.RequestRefused.TheVariants as refused
 use Rattle.lrs_http.specs.Head.{announced, request_of}
 use Rattle.lrs_http.specs.Links.{GivesRefusal}
 use Rattle.lrs_http.specs.Prospect.{parts_at}
-use Rattle.lrs_http.specs.Stream.{window, longest_head}
+use Rattle.lrs_http.specs.Stream.{window}
 use Rattle.lrs_http.proofs.NextLemmas.{target_text, refused_head, refused_body, next_given, with_its_body}
 use Rattle.lrs_http.proofs.reading.read_request.Goals as goal
+use Rattle.lrs_http.specs.declared.heads.TheConstants.{LONGEST_HEAD}
 
 pub take_head-requires-clause-text : goal.take_head-requires-clause-text
 take_head-requires-clause-text g c =
@@ -33,7 +34,7 @@ pub read_body-requires : goal.read_body-requires
 read_body-requires g c =
     let kept = c.read_head.new.kept.items in
     let size : length kept ≡ vec_len c.read_head.new.kept = search rules in
-    let front = length-take longest_head kept in
+    let front = length-take LONGEST_HEAD kept in
     omega (arith, c.in_ok-spans.ensures.head.within.section.len_fits, front, size)
 
 pub returns-in_err-request-2-clause-next : goal.returns-in_err-request-2-clause-next

@@ -1,7 +1,7 @@
 use Rattle.std.proofs.Common.{◌∙◌, ◌≤◌, ℕ, List, length, sym}
 use Rattle.std.proofs.lemmas.Result.{on_ok_weaker}
 use Rattle.lrs_disk.proofs.Moments.{started, goes_on, stayed}
-use Rattle.lrs_journal.specs.Steps.{Reads, IsCutBack}
+use Rattle.lrs_journal.specs.Steps.{GivesBytes, IsCutBack}
 use Rattle.lrs_journal.proofs.Cutting.{uncut, torn_cut, torn_end, closed_end}
 use Rattle.lrs_journal.proofs.Told.{before}
 use Rattle.lrs_journal.proofs.steps.repair.Goals as goal
@@ -79,4 +79,4 @@ returns-clause-closed g c =
     on_ok_weaker c.sync-2.result (λ d f left.
     let after = before _ _ _ f c.in_ok-write_at.ensures.written (sym c.sync-2.ensures.still ∙ d f left) in
     let from = before _ _ _ after.0 c.in_ok-cut.ensures.cut (sym c.sync.ensures.still ∙ after.1) in
-    closed_end c.args.offset (Reads g.D.Disk.told c.args.disk.now) from.0 after.0 f from.1 (c.requires.offset from.0 from.1) from.2 after.2) c.sync-2.ensures.durable
+    closed_end c.args.offset (GivesBytes g.D.Disk.told c.args.disk.now) from.0 after.0 f from.1 (c.requires.offset from.0 from.1) from.2 after.2) c.sync-2.ensures.durable

@@ -24,7 +24,7 @@ pub next_item-returns-in_err-value-clause-again : goal.next_item-returns-in_err-
 next_item-returns-in_err-value-clause-again t c = λ all rest left. err_finds _ _ c.from_residual.ensures.1 (λ y is. is ∙ item_fault _ _ _ c.in_err-value.ensures.again all rest left)
 
 pub next_item-returns-clause-again : goal.next_item-returns-clause-again
-next_item-returns-clause-again t c = item_again _ _ c.in_ok-value.field-0 _ _ _ _ c.in_ok-push.ensures.ok c.in_ok-value.ensures.again c.goes_on.ensures.again
+next_item-returns-clause-again t c = item_again _ _ c.in_ok-value.field-0 _ _ _ _ c.in_ok-push.ensures.ok c.in_ok-value.ensures.again c.comma_or.ensures.steps
 
 pub object-loop-goes-init : goal.object-loop-goes-init
 object-loop-goes-init t c = rw c.new-members.ensures (object_begun _ _ _ _ _ c.requires.1 c.advance.ensures c.take-goes.ensures)
@@ -43,7 +43,7 @@ pub next_member-returns-in_err-member-clause-again : goal.next_member-returns-in
 next_member-returns-in_err-member-clause-again t c = λ all rest left. err_finds _ _ c.from_residual.ensures.1 (λ y is. is ∙ members_fault _ _ _ c.in_err-member.ensures.again all rest left)
 
 pub next_member-returns-clause-again : goal.next_member-returns-clause-again
-next_member-returns-clause-again t c = members_again _ _ c.in_ok-member.field-0 _ _ _ _ c.in_ok-push.ensures.ok c.in_ok-member.ensures.again c.goes_on.ensures.again
+next_member-returns-clause-again t c = members_again _ _ c.in_ok-member.field-0 _ _ _ _ c.in_ok-push.ensures.ok c.in_ok-member.ensures.again c.comma_or.ensures.steps
 
 pub member-returns-in_err-name-clause-again : goal.member-returns-in_err-name-clause-again
 member-returns-in_err-name-clause-again t c = λ m rest w ends. err_finds _ _ c.from_residual.ensures.1 (λ y is. is ∙ c.in_err-name.ensures.all m.0 _ (name_at m _ rest w))

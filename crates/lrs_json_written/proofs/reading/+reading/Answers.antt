@@ -46,7 +46,7 @@ pub next_item-returns-in_err-value : goal.next_item-returns-in_err-value
 next_item-returns-in_err-value t c = item_fault c.args.depth _ _ _ _ _ c.from_residual.ensures.1 c.in_err-value.ensures
 
 pub next_item-returns : goal.next_item-returns
-next_item-returns t c = item_done c.args.depth _ _ c.in_ok-value.field-0 _ _ _ _ c.in_ok-push.ensures.ok c.in_ok-value.ensures c.goes_on.ensures
+next_item-returns t c = item_done c.args.depth _ _ c.in_ok-value.field-0 _ _ _ _ c.in_ok-push.ensures.ok c.in_ok-value.ensures c.comma_or.ensures.steps
 
 -- ---- objects
 
@@ -84,7 +84,7 @@ pub next_member-returns-in_err-member : goal.next_member-returns-in_err-member
 next_member-returns-in_err-member t c = next_fault c.args.depth _ _ _ _ _ c.from_residual.ensures.1 c.in_err-member.ensures
 
 pub next_member-returns : goal.next_member-returns
-next_member-returns t c = next_done c.args.depth _ _ c.in_ok-member.field-0 _ _ _ _ c.in_ok-push.ensures.ok c.in_ok-member.ensures c.goes_on.ensures
+next_member-returns t c = next_done c.args.depth _ _ c.in_ok-member.field-0 _ _ _ _ c.in_ok-push.ensures.ok c.in_ok-member.ensures c.comma_or.ensures.steps
 
 pub member-returns : goal.member-returns
 member-returns t c =

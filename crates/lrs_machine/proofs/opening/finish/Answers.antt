@@ -1,6 +1,5 @@
-use Rattle.std.proofs.Common.{◌≡◌, map, sym, subst, ap, ◌∙◌}
+use Rattle.std.proofs.Common.{map, sym, subst}
 use Rattle.lrs_disk.specs.Disk.{LeavesOnly}
-use Rattle.lrs_journal.specs.Journal.{TellsAlike}
 use Rattle.lrs_journal.specs.Store.{Stands}
 use Rattle.lrs_record.specs.Entries.{written_entry}
 use Rattle.lrs_machine.specs.Fold.{state_of}

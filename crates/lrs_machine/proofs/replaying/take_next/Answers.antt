@@ -1,10 +1,10 @@
-use Rattle.std.proofs.Common.{◌≡◌, map, sym, subst, true, false, ◌∙◌, ap, Err, rules}
+use Rattle.std.proofs.Common.{◌≡◌, map, sym, subst, true, ◌∙◌, ap, Err, rules}
 use Rattle.std.specs.Prelude.{◌==◌}
 use Rattle.lrs_record.specs.Entries.{written_entry}
 use Rattle.lrs_machine.specs.Desk.{IsDeskRefused}
 use Rattle.lrs_machine.specs.Fold.{state_of}
 use Rattle.lrs_machine.specs.Replays.{may_follow, TakesEntry}
-use Rattle.lrs_machine.proofs.ReplayLemmas.{taken_end, taken_more, taken_unread, taken_refused}
+use Rattle.lrs_machine.proofs.ReplayLemmas.{taken_more, taken_unread, taken_refused}
 use Rattle.lrs_machine.proofs.replaying.take_next.Goals as goal
 
 pub returns-in-Err-clause-refused : goal.returns-in-Err-clause-refused

@@ -2,9 +2,10 @@ use Rattle.std.proofs.Common.{◌∙◌, Option, subst, sym}
 use Rattle.lrs_parts.specs.Progress.{AreCounted, IsReadyToEnrol}
 use Rattle.lrs_state.specs.declared.registrations.HeldRegistration.{HeldRegistration}
 use Rattle.lrs_parts.proofs.Enrolling.{counted_more}
-use Rattle.lrs_parts.proofs.Voided.{no_item, some_item}
+use Rattle.lrs_parts.proofs.Voided.{some_item}
 use Rattle.lrs_register.specs.Register.{with_new}
 use Rattle.lrs_parts.proofs.following.enrol_new.Goals as goal
+use Rattle.xapi_docs.proofs.Back.{none_of}
 
 pub enrol-requires : goal.enrol-requires
 enrol-requires c =
@@ -21,4 +22,4 @@ returns-then-is_some c = λ founding courses registrations those ready counted.
 pub returns-else-is_some : goal.returns-else-is_some
 returns-else-is_some c = λ founding courses registrations those ready counted.
     subst (λ (o : Option HeldRegistration). AreCounted c.args.running.now founding courses (with_new registrations o) those)
-    (sym (no_item c.args.coming.now (sym c.is_some.ensures ∙ c.if-is_some.false))) counted
+    (sym (none_of c.args.coming.now (sym c.is_some.ensures ∙ c.if-is_some.false))) counted

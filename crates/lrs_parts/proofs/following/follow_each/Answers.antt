@@ -3,7 +3,6 @@ use Rattle.std.proofs.lemmas.List.{drop_all}
 use Rattle.std.proofs.lemmas.Option.{slice_get_read}
 use Rattle.cmi5_running_sessions.specs.Room.{HasSlotsFor}
 use Rattle.cmi5_running_sessions.specs.Cmi5SessionMarked.{marked}
-use Rattle.lrs_ids.proofs.Turns.{turn}
 use Rattle.lrs_parts.specs.Progress.{KeepsUp}
 use Rattle.lrs_parts.proofs.Arrivals.{Next, next_of}
 use Rattle.lrs_parts.proofs.Kept.{slots_kept, slots_on, still_has}
@@ -11,6 +10,7 @@ use Rattle.lrs_parts.proofs.Voided.{each_at, tree_found}
 use Rattle.xapi_statement.specs.Statements.{add_each}
 use Rattle.xapi_statement.specs.Stored.{StoredStatement}
 use Rattle.lrs_parts.proofs.following.follow_each.Goals as goal
+use Rattle.lrs_json.proofs.Lists.{drop_item}
 
 pub loop-statement-init : goal.loop-statement-init
 loop-statement-init c = record {
@@ -29,7 +29,7 @@ follow_next-position-requires-clause-there c =
     let more = drop (at.statement-index + 1) coming in
     let next : Next all at.position s more =
     next_of all at.position s more c.requires.distinct at.invariant.within
-    (at.invariant.added ∙ ap (λ (ss : List StoredStatement). add_each (take at.position all) ss) (turn coming at.statement-index s c.loop-statement-test.true c.statement-item.is)) in
+    (at.invariant.added ∙ ap (λ (ss : List StoredStatement). add_each (take at.position all) ss) (drop_item coming at.statement-index s c.loop-statement-test.true c.statement-item.is)) in
     next.there
 
 pub follow_next-position-requires-clause-slots : goal.follow_next-position-requires-clause-slots
@@ -57,7 +57,7 @@ loop-statement-preserved c =
     let more = drop (at.statement-index + 1) coming in
     let next : Next all at.position s more =
     next_of all at.position s more c.requires.distinct at.invariant.within
-    (at.invariant.added ∙ ap (λ (ss : List StoredStatement). add_each (take at.position all) ss) (turn coming at.statement-index s c.loop-statement-test.true c.statement-item.is)) in
+    (at.invariant.added ∙ ap (λ (ss : List StoredStatement). add_each (take at.position all) ss) (drop_item coming at.statement-index s c.loop-statement-test.true c.statement-item.is)) in
     record {
       within = subst (λ (n : ℕ). n ≤ length all) (sym c.follow_next-position.ensures.next) next.within;
       added = subst (λ (n : ℕ). all ≡ add_each (take n all) more) (sym c.follow_next-position.ensures.next) next.added;

@@ -3,9 +3,10 @@ use Rattle.cmi5_running_sessions.specs.Cmi5SessionMarked.{MarkedStatement, mark}
 use Rattle.lrs_parts.specs.Progress.{KeepsUp, voided_anew}
 use Rattle.lrs_parts.proofs.Events.{Voiding, no_event, voiding_at}
 use Rattle.lrs_parts.proofs.Kept.{slots_kept}
-use Rattle.lrs_parts.proofs.Voided.{no_item, some_item, voided_there}
+use Rattle.lrs_parts.proofs.Voided.{some_item, voided_there}
 use Rattle.xapi_statement.specs.Statements.{is_voided}
 use Rattle.lrs_parts.proofs.following.void_by.Goals as goal
+use Rattle.xapi_docs.proofs.Back.{none_of}
 
 pub returns-then-voids_anew-clause-follows : goal.returns-then-voids_anew-clause-follows
 returns-then-voids_anew-clause-follows c = λ s at follows.
@@ -23,7 +24,7 @@ pub returns-else-voids_anew-clause-follows : goal.returns-else-voids_anew-clause
 returns-else-voids_anew-clause-follows c = λ s at follows.
     let all = c.args.statements.now.held in
     subst (λ (those : List MarkedStatement). KeepsUp c.args.progress.now c.args.founding.now c.args.learning.now.courses.held c.args.learning.now.registrations.held those)
-    (sym (no_event all c.args.at s c.requires.distinct at (no_item (voided_anew all c.args.at) (sym c.voids_anew.ensures ∙ c.if-voids_anew.false)))) follows
+    (sym (no_event all c.args.at s c.requires.distinct at (none_of (voided_anew all c.args.at) (sym c.voids_anew.ensures ∙ c.if-voids_anew.false)))) follows
 
 pub returns-else-voids_anew-clause-slots : goal.returns-else-voids_anew-clause-slots
 returns-else-voids_anew-clause-slots c = slots_kept c.args.progress.now.sessions

@@ -2,7 +2,7 @@ use Rattle.std.proofs.Common.{IfSome, List, Option, subst, sym}
 use Rattle.cmi5_running_sessions.specs.Room.{MakesSlots}
 use Rattle.cmi5_running_verdicts.specs.Holding.{StandBehindHolders}
 use Rattle.cmi5_running_verdicts.specs.Cmi5VerdictEnrolmentEnrolment.{Enrolment}
-use Rattle.lrs_parts.proofs.Kept.{none_said}
+use Rattle.cmi5_running_sessions.proofs.Making.{none_made}
 use Rattle.lrs_parts.proofs.Readied.{lent, readied}
 use Rattle.xapi_statement.specs.Stored.{StoredStatement}
 use Rattle.lrs_parts.proofs.readying.ready_progress.Goals as goal
@@ -13,7 +13,7 @@ ready-requires c =
     (subst (λ (o : Option Enrolment). IfSome o (λ (e : Enrolment). StandBehindHolders e.nodes.now)) (sym c.as_ref.ensures.value) c.in_ok-enrolment.ensures.behind)
 
 pub returns-in_err-enrolment-clause-made : goal.returns-in_err-enrolment-clause-made
-returns-in_err-enrolment-clause-made c = none_said c.args.effect.now.statements c.args.progress.now.sessions
+returns-in_err-enrolment-clause-made c = none_made c.args.effect.now.statements c.args.progress.now.sessions
 
 pub returns-clause-made : goal.returns-clause-made
 returns-clause-made c =

@@ -2,7 +2,7 @@
 use Rattle.std.proofs.Common.{ℕ, List, [], ◌++◌, Result, Ok, Err, OnOk, Option, Some, None, IfSome, codes, refl}
 use Rattle.lrs_agents.specs.declared.identifiers.Ifi.{Ifi}
 use Rattle.lrs_fields.specs.LrsDecimalNumbers.{Ends}
-use Rattle.lrs_fields.specs.Reading.{IsKept, MayFollowOptional, Reads, ReadsField, ReadsOptional, field_text, optional_text}
+use Rattle.lrs_fields.specs.Reading.{IsKeptValue, MayFollowOptional, Reads, ReadsField, ReadsOptional, field_text, optional_text}
 use Rattle.lrs_fields.specs.Values.{Value, text_value, id_value, iri_value, agent_value}
 use Rattle.lrs_fields.proofs.Differing.{differ_at}
 use Rattle.lrs_fields.proofs.Sequences.{both_stand, both_text, failed, made, mapped, paired, two}
@@ -14,7 +14,7 @@ use Rattle.xapi_keys.specs.declared.state_key.StateKey.{StateKey}
 use Rattle.lrs_record.proofs.store_writes.read_key.Goals as goal
 
 abbrev IsKeptOptional : {A : Type 0} → (A → Value) → Option A → Type 0
-IsKeptOptional value o = IfSome o (IsKept value)
+IsKeptOptional value o = IfSome o (IsKeptValue value)
 
 abbrev activity_later : List ℕ → List ℕ
 activity_later = field_text (codes ",\"activity\":") iri_value
@@ -41,7 +41,7 @@ abbrev keyed_text : Keyed → List ℕ
 keyed_text = both_text activity_later (both_text agent_later (both_text registration_later state_later))
 
 abbrev IsKeyed : Keyed → Type 0
-IsKeyed = both_stand (IsKept iri_value) (both_stand (IsKept agent_value) (both_stand (IsKeptOptional id_value) (IsKept text_value)))
+IsKeyed = both_stand (IsKeptValue iri_value) (both_stand (IsKeptValue agent_value) (both_stand (IsKeptOptional id_value) (IsKeptValue text_value)))
 
 abbrev key_of : Keyed → StateKey
 key_of p = record { activity = p.0; agent = p.1.0; registration = p.1.1.0; state = p.1.1.1 }
@@ -56,15 +56,15 @@ key_read : (old m1 m2 m3 new : List ℕ) (r : Result (List ℕ) Stop) (s : Resul
 key_read old m1 m2 m3 new r s t u first second third fourth =
     made key_of keyed_text key_text IsKeyed IsKeptKey Ends Ends old new (paired r (paired s (paired t u)))
     (λ p is. ((is.0, is.1.0, is.1.1.0, is.1.1.1), refl)) (λ key rest is whole. ((key.activity, (key.agent, (key.registration, key.state))), (is.0, (is.1, (is.2, is.3))), refl)) (λ rest f. f)
-    (two activity_later (both_text agent_later (both_text registration_later state_later)) (IsKept iri_value) (both_stand (IsKept agent_value) (both_stand (IsKeptOptional id_value) (IsKept text_value))) Ends Ends
+    (two activity_later (both_text agent_later (both_text registration_later state_later)) (IsKeptValue iri_value) (both_stand (IsKeptValue agent_value) (both_stand (IsKeptOptional id_value) (IsKeptValue text_value))) Ends Ends
     old m1 new r (paired s (paired t u)) first
     (both_ok r
-    (λ x y. two agent_later (both_text registration_later state_later) (IsKept agent_value) (both_stand (IsKeptOptional id_value) (IsKept text_value)) Ends Ends m1 m2 new s (paired t u) x y
+    (λ x y. two agent_later (both_text registration_later state_later) (IsKeptValue agent_value) (both_stand (IsKeptOptional id_value) (IsKeptValue text_value)) Ends Ends m1 m2 new s (paired t u) x y
     (λ b rest is f. registration_ends b.0 b.1 rest))
     second
     (both_ok r
     (λ x y. both_ok s
-    (λ a b. two registration_later state_later (IsKeptOptional id_value) (IsKept text_value) (MayFollowOptional at_registration) Ends m2 m3 new t u a b
+    (λ a b. two registration_later state_later (IsKeptOptional id_value) (IsKeptValue text_value) (MayFollowOptional at_registration) Ends m2 m3 new t u a b
     (λ b rest is f. (refl, λ more e. differ_at _ _ 2 refl e)))
     x y)
     third fourth))

@@ -1,7 +1,6 @@
-use Rattle.std.proofs.Common.{◌≡◌, ◌≤◌, ◌<◌, ◌+◌, ◌++◌, List, None, Some, length, refl, sym, ap, ◌∙◌, arith}
+use Rattle.std.proofs.Common.{◌≡◌, ◌≤◌, ◌<◌, ◌+◌, ◌++◌, None, Some, length, refl, sym, ap, ◌∙◌, arith}
 use Rattle.std.proofs.lemmas.Option.{slice_get_read}
 use Rattle.lrs_made.specs.Cmi5SessionViews.{seen}
-use Rattle.lrs_ids.proofs.Turns.{turn}
 use Rattle.lrs_refusals.proofs.Handed.{held_all, held_more, told_at}
 use Rattle.lrs_refusals.proofs.Naming.{lawful_at, no_trees_left}
 use Rattle.lrs_refusals.proofs.Walked.{next_passed_on, next_refused}
@@ -9,6 +8,7 @@ use Rattle.lrs_refusals.specs.Known.{own_held}
 use Rattle.lrs_refusals.specs.Meeting.{refused_behind, refused_next, session_behind}
 use Rattle.lrs_made.specs.LrsPartsParts.{state_of}
 use Rattle.lrs_refusals.proofs.meeting.refused_behind.Goals as goal
+use Rattle.lrs_json.proofs.Lists.{drop_item}
 
 pub behind_one-requires-clause-lawful : goal.behind_one-requires-clause-lawful
 behind_one-requires-clause-lawful c =
@@ -45,7 +45,7 @@ loop-at-preserved c =
       refused = sym (next_passed_on st (seen c.loop-at.session) (seen c.in-Ok.next) ids ts at id t (slice_get_read ids (length ids) at id refl named c.index-ids-at.is)
           (slice_get_read ts (length ts) at t refl within c.index-statements-at.is) goes_on.0 goes_on.1)
           ∙ c.loop-at.invariant.refused;
-      held = held_more st ts at t c.loop-at.held c.behind_one.new.held (c.args.held.now ++ own_held st ts) (turn ts at t within c.index-statements-at.is) c.in_ok-behind.ensures.held c.loop-at.invariant.held;
+      held = held_more st ts at t c.loop-at.held c.behind_one.new.held (c.args.held.now ++ own_held st ts) (drop_item ts at t within c.index-statements-at.is) c.in_ok-behind.ensures.held c.loop-at.invariant.held;
     }
 
 pub returns-in-Err-clause-refused : goal.returns-in-Err-clause-refused

@@ -1,4 +1,4 @@
-use Rattle.std.proofs.Common.{◌≡◌, ◌∙◌, Bool, ap, not, sym}
+use Rattle.std.proofs.Common.{◌∙◌, Bool, ap, not, sym}
 use Rattle.lrs_ids.specs.Choices.{when}
 use Rattle.lrs_json.specs.View.{view}
 use Rattle.lrs_json.specs.declared.tree.Tree.{Tree}

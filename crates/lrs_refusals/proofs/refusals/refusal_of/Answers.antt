@@ -14,7 +14,7 @@ returns-clause-refused c =
     ∙ last_reason _ _ _ _ _ _
     (sym (c.barred.ensures ∙ ap (λ area. barred area c.args.who) c.area.ensures) ∙ c.in_default.is)
     (sym c.in_ok-refusal.ensures ∙ c.in_default-2.is)
-    (sym c.bad_role.ensures ∙ c.in_default-bad_role.is)
+    (sym c.barred_document.ensures ∙ c.in_default-barred_document.is)
     (sym c.missing.ensures ∙ c.in_default-missing.is)
     (sym c.in_ok-refusal-2.ensures ∙ c.in_default-3.is))
     c.conflict.ensures.refused

@@ -3,6 +3,6 @@ use Rattle.std.specs.List.{prefix_len}
 use Rattle.std.specs.Char.{is_ascii_digit}
 use Rattle.lrs_time.proofs.digits.digits_len.Given as goal
 
--- the digits before the place, and those at and after it, are all
+-- the digits before the index, and those at and after it, are all
 abbrev pub invariant-loop-i : goal.invariant-loop-i
 invariant-loop-i l = prefix_len is_ascii_digit l.text ≡ l.i + prefix_len is_ascii_digit (drop l.i l.text)

@@ -2,7 +2,7 @@ use Rattle.std.proofs.Common.{◌≡◌, ◌<◌, ◌+◌, length, take, sym, �
 use Rattle.lrs_json.specs.View.{member_view}
 use Rattle.lrs_json.specs.declared.tree.Tree.{the_lemmas}
 use Rattle.xapi_docs.specs.Merging.{HasIndices}
-use Rattle.xapi_docs.proofs.NameIndices.{place_comes, place_stands, seen}
+use Rattle.xapi_docs.proofs.NameIndices.{index_comes, index_stands, seen}
 use Rattle.xapi_docs.proofs.merging.indices_of.Goals as goal
 use Rattle.xapi_docs.proofs.merging.indices_of.Goals.{then-not-contains_key+in_ok-clone+in_ok-insert, else-not-contains_key}
 
@@ -14,8 +14,8 @@ loop-at-preserved c =
     let asked = c.contains_key.ensures in
     elim c.if-not-contains_key.branch [
       | then-not-contains_key+in_ok-clone+in_ok-insert w ↦ subst (λ z. HasIndices z (seen (take (c.loop-at.at + 1) c.args.members.now))) (sym w.indices-is)
-          (place_comes c.loop-at.indices w.insert.new.self c.args.members.now c.loop-at.at m w.in_ok-clone.field-0 c.contains_key.result l c.index-members-at.is (w.in_ok-clone.ensures.cases ∙ named) c.loop-at.invariant
+          (index_comes c.loop-at.indices w.insert.new.self c.args.members.now c.loop-at.at m w.in_ok-clone.field-0 c.contains_key.result l c.index-members-at.is (w.in_ok-clone.ensures.cases ∙ named) c.loop-at.invariant
           (rw (← named) asked) w.if-not-contains_key.true w.in_ok-insert.ensures.updates.0)
       | else-not-contains_key w ↦ subst (λ z. HasIndices z (seen (take (c.loop-at.at + 1) c.args.members.now))) (sym w.indices-is)
-          (place_stands c.loop-at.indices c.args.members.now c.loop-at.at m c.contains_key.result l c.index-members-at.is c.loop-at.invariant (rw (← named) asked) w.if-not-contains_key.false)
+          (index_stands c.loop-at.indices c.args.members.now c.loop-at.at m c.contains_key.result l c.index-members-at.is c.loop-at.invariant (rw (← named) asked) w.if-not-contains_key.false)
     ]

@@ -1,6 +1,6 @@
 use Rattle.std.proofs.lemmas.Result.{on_ok_weaker}
-use Rattle.xapi_format.proofs.Appending.{behind}
 use Rattle.xapi_format.proofs.adding.put_both.Goals as goal
+use Rattle.lrs_json.proofs.Pieces.{behind}
 
 pub returns-clause-ok : goal.returns-clause-ok
 returns-clause-ok c =

@@ -2,9 +2,9 @@ use Rattle.std.proofs.Common.{◌++◌, true, codes, ap, ◌∙◌}
 use Rattle.std.proofs.lemmas.Result.{on_ok_weaker}
 use Rattle.lrs_json.specs.Json.{string}
 use Rattle.lrs_json.specs.Texts.{member_text}
+use Rattle.lrs_json.proofs.Pieces.{behind}
 use Rattle.xapi_values.specs.LrsTimeMoments.{moment_text}
 use Rattle.xapi_format.proofs.Added.{timestamp_name}
-use Rattle.xapi_format.proofs.Appending.{behind}
 use Rattle.xapi_format.proofs.adding.put_given_times.Goals as goal
 
 pub returns-clause-ok : goal.returns-clause-ok

@@ -2,9 +2,9 @@ use Rattle.std.proofs.Common.{[], ◌∷◌, ◌++◌, ap, ◌∙◌}
 use Rattle.std.proofs.lemmas.Result.{on_ok_weaker}
 use Rattle.xapi_values.specs.LrsNamesIds.{id_text}
 use Rattle.xapi_format.proofs.Added.{id_member}
-use Rattle.xapi_format.proofs.Appending.{three_pieces}
 use Rattle.xapi_format.proofs.Plain.{plain_id}
 use Rattle.xapi_format.proofs.adding.put_id.Goals as goal
+use Rattle.lrs_json.proofs.Pieces.{three_pieces}
 
 pub returns-clause-ok : goal.returns-clause-ok
 returns-clause-ok c =

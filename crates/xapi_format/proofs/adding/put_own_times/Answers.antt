@@ -2,8 +2,8 @@ use Rattle.std.proofs.Common.{[], ◌∷◌, ◌++◌, true, codes, ap, ◌∙�
 use Rattle.std.proofs.lemmas.Result.{on_ok_weaker}
 use Rattle.lrs_json.specs.Json.{string}
 use Rattle.lrs_json.specs.Texts.{member_text}
+use Rattle.lrs_json.proofs.Pieces.{three_pieces}
 use Rattle.xapi_format.proofs.Added.{both_times}
-use Rattle.xapi_format.proofs.Appending.{three_pieces}
 use Rattle.xapi_format.proofs.Plain.{plain_moment}
 use Rattle.xapi_format.proofs.adding.put_own_times.Goals as goal
 

@@ -2,8 +2,8 @@ use Rattle.std.proofs.Common.{true, false, codes}
 use Rattle.std.proofs.lemmas.Result.{on_ok_weaker}
 use Rattle.lrs_json.specs.Json.{string}
 use Rattle.lrs_json.specs.Texts.{member_text}
+use Rattle.lrs_json.proofs.Pieces.{three_pieces}
 use Rattle.xapi_format.specs.Authorities.{account_name, home_page}
-use Rattle.xapi_format.proofs.Appending.{three_pieces}
 use Rattle.xapi_format.proofs.showing.put_account_members.Goals as goal
 
 pub returns-clause-ok : goal.returns-clause-ok

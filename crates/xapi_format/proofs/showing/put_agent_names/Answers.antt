@@ -2,7 +2,7 @@ use Rattle.std.proofs.Common.{◌++◌, true, false, codes, ap, ◌∙◌}
 use Rattle.std.proofs.lemmas.Result.{on_ok_weaker}
 use Rattle.lrs_json.specs.Json.{string}
 use Rattle.lrs_json.specs.Texts.{member_text}
-use Rattle.xapi_format.proofs.Appending.{behind}
+use Rattle.lrs_json.proofs.Pieces.{behind}
 use Rattle.xapi_format.proofs.showing.put_agent_names.Goals as goal
 
 pub returns-clause-ok : goal.returns-clause-ok

@@ -2,8 +2,8 @@ use Rattle.std.proofs.Common.{◌++◌, true, false, codes}
 use Rattle.std.proofs.lemmas.Result.{on_ok_weaker}
 use Rattle.lrs_json.specs.Json.{string}
 use Rattle.lrs_json.specs.Texts.{member_text}
+use Rattle.lrs_json.proofs.Pieces.{behind}
 use Rattle.xapi_format.specs.Authorities.{authority_name}
-use Rattle.xapi_format.proofs.Appending.{behind}
 use Rattle.xapi_format.proofs.written.put_front.Goals as goal
 
 pub returns : goal.returns

@@ -1,8 +1,8 @@
 use Rattle.std.proofs.Common.{◌≡◌, ◌∙◌, ◌+◌, ◌++◌, List, ap, append-nil, arith, drop, subst, sym}
 use Rattle.std.proofs.lemmas.List.{take_all}
 use Rattle.std.specs.Vec.Iter.{into_iter_items}
-use Rattle.lrs_ids.proofs.Turns.{turn}
 use Rattle.lrs_json.specs.declared.tree.Tree.{Tree}
+use Rattle.lrs_json.proofs.Lists.{drop_item}
 use Rattle.xapi_index.specs.Ahead.{AreTextsOf}
 use Rattle.xapi_index.proofs.Texts.{text_next, texts_more}
 use Rattle.xapi_index.specs.Index.{ArePosted, lists_of}
@@ -29,7 +29,7 @@ next_text-text-requires c =
     let xs = c.args.statements.now in
     let s = c.statement-item.result in
     text_next (into_iter_items at.texts) s (drop (at.statement-index + 1) xs)
-    (subst (λ (ss : List StoredStatement). AreTextsOf (into_iter_items at.texts) ss) (turn xs at.statement-index s c.loop-statement-test.true c.statement-item.is) at.invariant.texts)
+    (subst (λ (ss : List StoredStatement). AreTextsOf (into_iter_items at.texts) ss) (drop_item xs at.statement-index s c.loop-statement-test.true c.statement-item.is) at.invariant.texts)
 
 pub write_one-requires-clause-text : goal.write_one-requires-clause-text
 write_one-requires-clause-text c = c.next_text-text.ensures.text
@@ -59,7 +59,7 @@ loop-statement-preserved c =
           ∙ (ap (λ (all : List StoredStatement). add all s) at.invariant.added ∙ sym (add_each-more held xs at.statement-index s inside c.statement-item.is));
       texts = subst (λ (ts : List Tree). AreTextsOf ts (drop (at.statement-index + 1) xs)) (sym c.next_text-text.ensures.rest)
           (texts_more (into_iter_items at.texts) s (drop (at.statement-index + 1) xs)
-          (subst (λ (ss : List StoredStatement). AreTextsOf (into_iter_items at.texts) ss) (turn xs at.statement-index s inside c.statement-item.is) at.invariant.texts));
+          (subst (λ (ss : List StoredStatement). AreTextsOf (into_iter_items at.texts) ss) (drop_item xs at.statement-index s inside c.statement-item.is) at.invariant.texts));
       room = omega arith;
     }
 

@@ -1,9 +1,9 @@
 use Rattle.std.proofs.Common.{◌≡◌, ◌∙◌, [], ◌∷◌, ◌++◌, List, ap, append_assoc, false, if◌then◌else◌, not, subst, sym, true}
 use Rattle.std.proofs.lemmas.Result.{on_ok_weaker}
+use Rattle.std.proofs.lemmas.Bool.{not-false, not-true}
 use Rattle.xapi_index.specs.Ahead.{StandAhead}
 use Rattle.xapi_index.specs.Index.{lists_of}
 use Rattle.xapi_index.proofs.Adding.{add-new, add-old}
-use Rattle.xapi_index.proofs.Coming.{not_false, not_true}
 use Rattle.xapi_postings.specs.XapiStatementStatements.{is_held}
 use Rattle.xapi_postings.specs.XapiStatementStored.{StoredStatement}
 use Rattle.xapi_index.proofs.ahead.write_one.Goals as goal
@@ -30,7 +30,7 @@ returns-in-Ok-true-clause-added c =
     let told : not (is_held s.id all) ≡ true =
     subst (λ (xs : List StoredStatement). not (is_held s.id (held ++ xs)) ≡ true) c.as_slice.ensures.value (sym c.in-Ok-true.ensures.new ∙ c.in-Ok-true.field-0-test) in
     on_ok_weaker c.push_ahead.result
-    (λ more. ap (λ (xs : List StoredStatement). held ++ xs) more ∙ (sym (append_assoc held ahead (s ∷ [])) ∙ sym (add-new all s (not_true (is_held s.id all) told)))) c.push_ahead.ensures
+    (λ more. ap (λ (xs : List StoredStatement). held ++ xs) more ∙ (sym (append_assoc held ahead (s ∷ [])) ∙ sym (add-new all s (not-true (is_held s.id all) told)))) c.push_ahead.ensures
 
 pub returns-in-Ok-true-clause-index : goal.returns-in-Ok-true-clause-index
 returns-in-Ok-true-clause-index c = c.write_new.ensures.index
@@ -50,7 +50,7 @@ returns-in-Ok-false-clause-added c =
     let s = c.args.statement.now in
     let told : not (is_held s.id all) ≡ false =
     subst (λ (xs : List StoredStatement). not (is_held s.id (held ++ xs)) ≡ false) c.as_slice.ensures.value (sym c.in-Ok-false.ensures.new ∙ c.in-Ok-false.field-0-test) in
-    sym (add-old all s (not_false (is_held s.id all) told))
+    sym (add-old all s (not-false (is_held s.id all) told))
 
 pub returns-in-Ok-false-clause-index : goal.returns-in-Ok-false-clause-index
 returns-in-Ok-false-clause-index c = c.write_new.ensures.index

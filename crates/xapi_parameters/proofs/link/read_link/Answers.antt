@@ -1,16 +1,16 @@
 use Rattle.std.proofs.Common.{◌≡◌, Some, None, ap, ◌∙◌, arith}
 use Rattle.std.proofs.lemmas.Bool.Decides.{nat_tests}
-use Rattle.xapi_parameters.proofs.Least.{bad_link_answers, link_at, link_filters, link_once, link_places, rule_answers, value_answers}
+use Rattle.xapi_parameters.proofs.Least.{bad_link_answers, link_at, link_filters, link_once, link_numbers, rule_answers, value_answers}
 use Rattle.xapi_parameters.proofs.link.read_link.Goals as goal
 
 pub query_of-requires : goal.query_of-requires
 query_of-requires c = link_filters c.args.pairs.now (link_at c.args.pairs.now _ _ c.in-None.is c.in_ok-broken_by_link.ensures)
 
 pub number_under-requires : goal.number_under-requires
-number_under-requires c = (link_places c.args.pairs.now (link_at c.args.pairs.now _ _ c.in-None.is c.in_ok-broken_by_link.ensures)).0
+number_under-requires c = (link_numbers c.args.pairs.now (link_at c.args.pairs.now _ _ c.in-None.is c.in_ok-broken_by_link.ensures)).0
 
 pub number_under-requires-in-None : goal.number_under-requires-in-None
-number_under-requires-in-None c = (link_places c.args.pairs.now (link_at c.args.pairs.now _ _ c.in-None.is c.in_ok-broken_by_link.ensures)).1
+number_under-requires-in-None c = (link_numbers c.args.pairs.now (link_at c.args.pairs.now _ _ c.in-None.is c.in_ok-broken_by_link.ensures)).1
 
 pub returns-in-Some-eq14-clause-bad : goal.returns-in-Some-eq14-clause-bad
 returns-in-Some-eq14-clause-bad c = λ _.

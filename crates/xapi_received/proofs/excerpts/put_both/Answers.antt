@@ -1,7 +1,7 @@
 use Rattle.std.proofs.lemmas.Result.{on_ok_weaker}
 use Rattle.xapi_received.specs.Received.{excerpt_text}
-use Rattle.xapi_format.proofs.Appending.{behind}
 use Rattle.xapi_received.proofs.excerpts.put_both.Goals as goal
+use Rattle.lrs_json.proofs.Pieces.{behind}
 
 pub returns-clause-ok : goal.returns-clause-ok
 returns-clause-ok c =

@@ -1,8 +1,8 @@
 use Rattle.std.proofs.Common.{◌++◌, List, ℕ, ap, ◌∙◌}
 use Rattle.std.proofs.lemmas.Result.{on_ok_weaker}
 use Rattle.xapi_received.specs.Received.{bracket_text, bytes_at}
-use Rattle.xapi_format.proofs.Appending.{behind}
 use Rattle.xapi_received.proofs.marks.put_excerpt.Goals as goal
+use Rattle.lrs_json.proofs.Pieces.{behind}
 
 pub returns-clause-ok : goal.returns-clause-ok
 returns-clause-ok c =

@@ -4,8 +4,8 @@ use Rattle.xapi_format.specs.Authorities.{authority_json}
 use Rattle.xapi_format.specs.Completed.{added}
 use Rattle.xapi_received.specs.Excerpts.{listed}
 use Rattle.xapi_received.specs.Received.{ending_text, excerpts_text}
-use Rattle.xapi_format.proofs.Appending.{behind}
 use Rattle.xapi_received.proofs.received.put_whole.Goals as goal
+use Rattle.lrs_json.proofs.Pieces.{behind}
 
 pub returns-clause-ok : goal.returns-clause-ok
 returns-clause-ok c = λ received given.

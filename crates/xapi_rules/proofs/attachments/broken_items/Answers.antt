@@ -1,7 +1,8 @@
 use Rattle.std.proofs.Common.{◌+◌, map, drop, ap}
 use Rattle.lrs_json.specs.View.{view, elements_of}
 use Rattle.xapi_rules.specs.Contexts.{faults_of_attachments, attachment_faults}
-use Rattle.xapi_rules.proofs.Lists.{drop_item, one_more}
+use Rattle.lrs_json.proofs.Lists.{drop_item}
+use Rattle.lrs_names.proofs.RuleLemmas.{one_more}
 use Rattle.xapi_rules.proofs.attachments.broken_items.Goals as goal
 
 pub loop-item-preserved : goal.loop-item-preserved

@@ -3,7 +3,7 @@ use Rattle.std.specs.Option.{option_to_list}
 use Rattle.lrs_json.specs.View.{view, elements_of}
 use Rattle.lrs_json.proofs.Sets.{name_new}
 use Rattle.xapi_rules.specs.Objects.{ids_of}
-use Rattle.xapi_rules.proofs.Lists.{drop_item}
+use Rattle.lrs_json.proofs.Lists.{drop_item}
 use Rattle.xapi_rules.proofs.components.are_distinct.Goals as goal
 
 pub loop-item-preserved : goal.loop-item-preserved

@@ -1,6 +1,6 @@
 use Rattle.lrs_json.specs.View.{view}
 use Rattle.xapi_rules.specs.Rules.{statement_faults}
-use Rattle.xapi_rules.proofs.Lists.{ok_least}
+use Rattle.lrs_names.proofs.RuleLemmas.{ok_least}
 use Rattle.xapi_rules.proofs.rules.broken_rule.Goals as goal
 
 pub returns-clause-least : goal.returns-clause-least

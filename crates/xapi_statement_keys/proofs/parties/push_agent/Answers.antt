@@ -1,4 +1,4 @@
--- The plain key, at a direct place, and the related one.
+-- The plain key, in a direct role, and the related one.
 use Rattle.std.proofs.Common.{◌&&◌}
 use Rattle.std.proofs.lemmas.Result.{on_ok_weaker}
 use Rattle.lrs_agents.specs.Identifiers.{same_ifi}

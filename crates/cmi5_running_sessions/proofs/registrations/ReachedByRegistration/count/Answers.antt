@@ -3,7 +3,7 @@ use Rattle.std.specs.Map.{lookup}
 use Rattle.std.specs.Option.{option_copied_mut}
 use Rattle.std.proofs.lemmas.Bool.{false≢true}
 use Rattle.lrs_json.specs.View.{view}
-use Rattle.cmi5_running_sessions.specs.Entries.{Entries, UnitsByRegistration, reached_behind}
+use Rattle.cmi5_running_sessions.specs.Maps.{TextMap, UnitsByRegistration, reached_behind}
 use Rattle.cmi5_running_sessions.specs.Kept.{is_same, units_of}
 use Rattle.cmi5_running_sessions.specs.declared.units.Reached.{Reached}
 use Rattle.cmi5_running_sessions.proofs.Altering.{listed, unit_changed}
@@ -15,7 +15,7 @@ count-requires c =
     let key = c.args.registration.now in
     let found : units_of key c.args.self.now ≡ c.in-Some.units.now =
     sym (ap (λ (es : UnitsByRegistration). units_of key es) c.self.view_is) ∙ ap listed (sym c.get_mut.ensures.value ∙ ap option_copied_mut c.in-Some.is) in
-    subst (λ (us : Entries Reached). is_some (lookup (is_same c.args.activity.now) us) ≡ true) found c.requires
+    subst (λ (us : TextMap Reached). is_some (lookup (is_same c.args.activity.now) us) ≡ true) found c.requires
 
 pub returns : goal.returns
 returns c =
@@ -31,5 +31,5 @@ returns c =
       | in-None w ↦
           let none : units_of key c.args.self.now ≡ [] =
           sym (ap (λ (es : UnitsByRegistration). units_of key es) c.self.view_is) ∙ ap listed (sym c.get_mut.ensures.value ∙ ap option_copied_mut w.in-None.is) in
-          absurd (false≢true (sym (ap (λ (us : Entries Reached). is_some (lookup (is_same c.args.activity.now) us)) none) ∙ c.requires))
+          absurd (false≢true (sym (ap (λ (us : TextMap Reached). is_some (lookup (is_same c.args.activity.now) us)) none) ∙ c.requires))
     ]

@@ -1,5 +1,5 @@
 use Rattle.std.proofs.Common.{◌∙◌, sym, ap}
-use Rattle.cmi5_running_sessions.specs.Entries.{kept_in}
+use Rattle.cmi5_running_sessions.specs.Maps.{kept_in}
 use Rattle.cmi5_running_sessions.specs.Kept.{nothing_reached}
 use Rattle.cmi5_running_sessions.proofs.registrations.ReachedByRegistration.get.Goals as goal
 

@@ -1,7 +1,7 @@
 use Rattle.std.proofs.Common.{◌≡◌, ◌∙◌, ℕ, List, None, option_map, rules, subst, sym}
 use Rattle.lrs_json.specs.View.{view}
 use Rattle.lrs_json.specs.declared.tree.Tree.{Tree}
-use Rattle.cmi5_running_sessions.specs.Entries.{ChangesUnits, is_same_unit, reached_behind}
+use Rattle.cmi5_running_sessions.specs.Maps.{ChangesUnits, is_same_unit, reached_behind}
 use Rattle.cmi5_running_sessions.specs.Room.{needs_unit}
 use Rattle.cmi5_running_sessions.proofs.Altering.{unit_itself, units_changed_alike, units_unchanged}
 use Rattle.cmi5_running_sessions.proofs.Counting.{of_told, of_untold}

@@ -1,6 +1,6 @@
 use Rattle.std.proofs.Common.{◌∙◌, option_copied, sym, ap}
 use Rattle.std.specs.Map.{lookup}
-use Rattle.cmi5_running_sessions.specs.Entries.{Entries, UnitsByRegistration, is_empty_slot, is_nothing_reached, unit_at}
+use Rattle.cmi5_running_sessions.specs.Maps.{TextMap, UnitsByRegistration, is_empty_slot, is_nothing_reached, unit_at}
 use Rattle.cmi5_running_sessions.specs.Kept.{is_same}
 use Rattle.cmi5_running_sessions.specs.declared.units.Reached.{Reached}
 use Rattle.cmi5_running_sessions.proofs.Altering.{listed}
@@ -9,11 +9,11 @@ use Rattle.cmi5_running_sessions.proofs.registrations.ReachedByRegistration.is_e
 pub returns-in-Some : goal.returns-in-Some
 returns-in-Some c =
     let found = ap listed (sym (ap option_copied c.in-Some.is) ∙ c.get.ensures.value) in
-    c.is_empty_at.ensures ∙ (ap (λ (us : Entries Reached). is_empty_slot is_nothing_reached (lookup (is_same c.args.activity.now) us)) found
+    c.is_empty_at.ensures ∙ (ap (λ (us : TextMap Reached). is_empty_slot is_nothing_reached (lookup (is_same c.args.activity.now) us)) found
     ∙ ap (λ (es : UnitsByRegistration). is_empty_slot is_nothing_reached (unit_at c.args.registration.now c.args.activity.now es)) c.self.view_is)
 
 pub returns-in-None : goal.returns-in-None
 returns-in-None c =
     let found = ap listed (sym (ap option_copied c.in-None.is) ∙ c.get.ensures.value) in
-    ap (λ (us : Entries Reached). is_empty_slot is_nothing_reached (lookup (is_same c.args.activity.now) us)) found
+    ap (λ (us : TextMap Reached). is_empty_slot is_nothing_reached (lookup (is_same c.args.activity.now) us)) found
     ∙ ap (λ (es : UnitsByRegistration). is_empty_slot is_nothing_reached (unit_at c.args.registration.now c.args.activity.now es)) c.self.view_is

@@ -3,7 +3,7 @@ use Rattle.std.specs.BTreeMap.{BTreeMap}
 use Rattle.std.specs.Map.{lookup}
 use Rattle.std.specs.Option.{option_copied_mut}
 use Rattle.std.proofs.lemmas.Result.{on_ok_weaker}
-use Rattle.cmi5_running_sessions.specs.Entries.{AddsFilled, Entries, MakesUnits, UnitsByRegistration, is_same_unit}
+use Rattle.cmi5_running_sessions.specs.Maps.{AddsFilled, TextMap, MakesUnits, UnitsByRegistration, is_same_unit}
 use Rattle.cmi5_running_sessions.specs.Kept.{is_same, units_of}
 use Rattle.cmi5_running_sessions.specs.declared.units.Reached.{Reached}
 use Rattle.cmi5_running_sessions.proofs.Altering.{here, kept_before, listed, same_key, unit_made}
@@ -40,17 +40,17 @@ returns-in-Some-clause-filled c =
 
 pub make_first-requires : goal.make_first-requires
 make_first-requires c =
-    ap (λ (m : BTreeMap (List ℕ) (Entries Reached)). units_of c.args.registration m.entries) c.get_mut.follows.holds-at-none
+    ap (λ (m : BTreeMap (List ℕ) (TextMap Reached)). units_of c.args.registration m.entries) c.get_mut.follows.holds-at-none
     ∙ ap listed (sym c.get_mut.ensures.value ∙ ap option_copied_mut c.in-None.is)
 
 pub returns-in-None-clause-made : goal.returns-in-None-clause-made
 returns-in-None-clause-made c =
-    let same = ap (λ (m : BTreeMap (List ℕ) (Entries Reached)). m.entries) c.get_mut.follows.holds-at-none ∙ c.self.view_is in
+    let same = ap (λ (m : BTreeMap (List ℕ) (TextMap Reached)). m.entries) c.get_mut.follows.holds-at-none ∙ c.self.view_is in
     subst (λ (es : UnitsByRegistration). MakesUnits (is_same_unit c.args.registration c.args.activity.now) es c.make_first.new.map.entries) same c.make_first.ensures.made
 
 pub returns-in-None-clause-filled : goal.returns-in-None-clause-filled
 returns-in-None-clause-filled c =
-    let same = ap (λ (m : BTreeMap (List ℕ) (Entries Reached)). m.entries) c.get_mut.follows.holds-at-none ∙ c.self.view_is in
+    let same = ap (λ (m : BTreeMap (List ℕ) (TextMap Reached)). m.entries) c.get_mut.follows.holds-at-none ∙ c.self.view_is in
     subst (λ (es : UnitsByRegistration). AddsFilled es c.make_first.new.map.entries) same c.make_first.ensures.filled
 
 pub returns-in-None-clause-there : goal.returns-in-None-clause-there

@@ -1,7 +1,7 @@
 use Rattle.std.proofs.Common.{◌≡◌, ◌∙◌, true, ℕ, List, is_some, inl, refl, sym}
 use Rattle.std.proofs.lemmas.Bool.{false≢true}
 use Rattle.std.proofs.lemmas.Result.{on_ok_weaker}
-use Rattle.cmi5_running_sessions.specs.Entries.{is_same_unit, unit_at}
+use Rattle.cmi5_running_sessions.specs.Maps.{is_same_unit, unit_at}
 use Rattle.cmi5_running_sessions.specs.Room.{needs_unit}
 use Rattle.cmi5_running_sessions.proofs.Altering.{units_made_alike}
 use Rattle.cmi5_running_sessions.proofs.Counting.{of_told, of_untold, unit_there}

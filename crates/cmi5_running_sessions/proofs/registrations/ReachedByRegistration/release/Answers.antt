@@ -1,5 +1,5 @@
 use Rattle.std.proofs.Common.{◌≡◌, ℕ, List, None, rules}
-use Rattle.cmi5_running_sessions.specs.Entries.{is_nothing_reached, is_same_unit, taken_back}
+use Rattle.cmi5_running_sessions.specs.Maps.{is_nothing_reached, is_same_unit, taken_back}
 use Rattle.cmi5_running_sessions.specs.Room.{needs_unit}
 use Rattle.cmi5_running_sessions.proofs.Altering.{units_changed_alike, units_unchanged}
 use Rattle.cmi5_running_sessions.proofs.Counting.{of_told, of_untold}

@@ -1,5 +1,5 @@
 use Rattle.std.proofs.Common.{◌∙◌, sym}
-use Rattle.cmi5_running_sessions.specs.Entries.{is_nothing_reached, taken_back, unit_at}
+use Rattle.cmi5_running_sessions.specs.Maps.{is_nothing_reached, taken_back, unit_at}
 use Rattle.cmi5_running_sessions.proofs.Altering.{empty_there, left}
 use Rattle.cmi5_running_sessions.proofs.Counting.{units_emptied, units_left}
 use Rattle.cmi5_running_sessions.proofs.registrations.ReachedByRegistration.take_back.Goals as goal

@@ -2,7 +2,7 @@ use Rattle.std.proofs.Common.{◌≡◌, ◌∙◌, [], Some, None, is_some, tru
 use Rattle.std.specs.Map.{lookup}
 use Rattle.std.specs.Option.{option_copied_mut}
 use Rattle.std.proofs.lemmas.Bool.{false≢true}
-use Rattle.cmi5_running_sessions.specs.Entries.{Entries, UnitsByRegistration}
+use Rattle.cmi5_running_sessions.specs.Maps.{TextMap, UnitsByRegistration}
 use Rattle.cmi5_running_sessions.specs.Kept.{is_same, units_of}
 use Rattle.cmi5_running_sessions.specs.declared.units.Reached.{Reached}
 use Rattle.cmi5_running_sessions.proofs.Altering.{first_there, kept_before, listed, stays_filled, unit_changed}
@@ -14,7 +14,7 @@ remove-requires c =
     let key = c.args.registration.now in
     let found : units_of key c.args.self.now ≡ c.in-Some.units.now =
     sym (ap (λ (es : UnitsByRegistration). units_of key es) c.self.view_is) ∙ ap listed (sym c.get_mut.ensures.value ∙ ap option_copied_mut c.in-Some.is) in
-    ltb-true 1 (length c.in-Some.units.now) (subst (λ (us : Entries Reached). nat_lt 1 (length us) ≡ true) found c.requires)
+    ltb-true 1 (length c.in-Some.units.now) (subst (λ (us : TextMap Reached). nat_lt 1 (length us) ≡ true) found c.requires)
 
 pub returns-clause-changed : goal.returns-clause-changed
 returns-clause-changed c =
@@ -30,7 +30,7 @@ returns-clause-changed c =
       | in-None w ↦
           let none : units_of key c.args.self.now ≡ [] =
           sym (ap (λ (es : UnitsByRegistration). units_of key es) c.self.view_is) ∙ ap listed (sym c.get_mut.ensures.value ∙ ap option_copied_mut w.in-None.is) in
-          absurd (false≢true (sym (ap (λ (us : Entries Reached). nat_lt 1 (length us)) none) ∙ c.requires))
+          absurd (false≢true (sym (ap (λ (us : TextMap Reached). nat_lt 1 (length us)) none) ∙ c.requires))
     ]
 
 pub returns-clause-fewer : goal.returns-clause-fewer
@@ -47,7 +47,7 @@ returns-clause-fewer c =
       | in-None w ↦
           let none : units_of key c.args.self.now ≡ [] =
           sym (ap (λ (es : UnitsByRegistration). units_of key es) c.self.view_is) ∙ ap listed (sym c.get_mut.ensures.value ∙ ap option_copied_mut w.in-None.is) in
-          absurd (false≢true (sym (ap (λ (us : Entries Reached). nat_lt 1 (length us)) none) ∙ c.requires))
+          absurd (false≢true (sym (ap (λ (us : TextMap Reached). nat_lt 1 (length us)) none) ∙ c.requires))
     ]
 
 pub returns-clause-filled : goal.returns-clause-filled
@@ -64,5 +64,5 @@ returns-clause-filled c =
       | in-None w ↦
           let none : units_of key c.args.self.now ≡ [] =
           sym (ap (λ (es : UnitsByRegistration). units_of key es) c.self.view_is) ∙ ap listed (sym c.get_mut.ensures.value ∙ ap option_copied_mut w.in-None.is) in
-          absurd (false≢true (sym (ap (λ (us : Entries Reached). nat_lt 1 (length us)) none) ∙ c.requires))
+          absurd (false≢true (sym (ap (λ (us : TextMap Reached). nat_lt 1 (length us)) none) ∙ c.requires))
     ]

@@ -1,6 +1,6 @@
 use Rattle.std.proofs.Common.{◌∙◌, nat_lt, [], None, length, refl, sym, ap, is_some}
 use Rattle.std.proofs.lemmas.Bool.{false≢true}
-use Rattle.cmi5_running_sessions.specs.Entries.{UnitsByRegistration, unit_at}
+use Rattle.cmi5_running_sessions.specs.Maps.{UnitsByRegistration, unit_at}
 use Rattle.cmi5_running_sessions.specs.Kept.{units_of}
 use Rattle.cmi5_running_sessions.proofs.Altering.{kept_before, only_one, stays_filled, unit_changed, unit_kept}
 use Rattle.cmi5_running_sessions.proofs.registrations.ReachedByRegistration.take_out.Goals as goal

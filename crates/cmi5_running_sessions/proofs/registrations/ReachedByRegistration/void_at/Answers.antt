@@ -1,6 +1,6 @@
 use Rattle.std.proofs.Common.{◌∙◌, option_map, sym}
 use Rattle.lrs_json.specs.View.{view}
-use Rattle.cmi5_running_sessions.specs.Entries.{reached_without, unit_at}
+use Rattle.cmi5_running_sessions.specs.Maps.{reached_without, unit_at}
 use Rattle.cmi5_running_sessions.proofs.Counting.{none_filled, units_left}
 use Rattle.cmi5_running_sessions.proofs.registrations.ReachedByRegistration.void_at.Goals as goal
 

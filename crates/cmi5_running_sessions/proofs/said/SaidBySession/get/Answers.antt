@@ -1,6 +1,6 @@
 use Rattle.std.proofs.Common.{◌∙◌, ℕ, List, ap, option_copied, sym}
 use Rattle.std.specs.Map.{lookup}
-use Rattle.cmi5_running_sessions.specs.Entries.{kept_in}
+use Rattle.cmi5_running_sessions.specs.Maps.{kept_in}
 use Rattle.cmi5_running_sessions.specs.Kept.{is_same, nothing_said}
 use Rattle.cmi5_running_sessions.specs.declared.own.OwnSaid.{OwnSaid}
 use Rattle.cmi5_running_sessions.proofs.said.SaidBySession.get.Goals as goal

@@ -2,7 +2,7 @@ use Rattle.std.proofs.Common.{◌≡◌, ◌∙◌, ℕ, List, Some, None, is_so
 use Rattle.std.specs.Map.{lookup}
 use Rattle.std.specs.Option.{option_copied_mut}
 use Rattle.std.proofs.lemmas.Bool.{false≢true}
-use Rattle.cmi5_running_sessions.specs.Entries.{own_behind}
+use Rattle.cmi5_running_sessions.specs.Maps.{own_behind}
 use Rattle.cmi5_running_sessions.specs.Kept.{is_same}
 use Rattle.cmi5_running_sessions.specs.declared.own.OwnSaid.{OwnSaid}
 use Rattle.cmi5_running_sessions.proofs.Altering.{changed_at}

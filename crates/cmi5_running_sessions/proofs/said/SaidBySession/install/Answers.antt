@@ -1,5 +1,5 @@
 use Rattle.std.proofs.Common.{◌∙◌, option_map, refl, rules, sym}
-use Rattle.cmi5_running_sessions.specs.Entries.{own_behind}
+use Rattle.cmi5_running_sessions.specs.Maps.{own_behind}
 use Rattle.cmi5_running_sessions.specs.Kept.{is_same}
 use Rattle.cmi5_running_sessions.specs.Room.{needs_own}
 use Rattle.cmi5_running_sessions.proofs.Altering.{changed_alike, same_key, unchanged}

@@ -1,5 +1,5 @@
 use Rattle.std.proofs.Common.{rules}
-use Rattle.cmi5_running_sessions.specs.Entries.{is_nothing_said, taken_back}
+use Rattle.cmi5_running_sessions.specs.Maps.{is_nothing_said, taken_back}
 use Rattle.cmi5_running_sessions.specs.Kept.{is_same}
 use Rattle.cmi5_running_sessions.specs.Room.{needs_own}
 use Rattle.cmi5_running_sessions.proofs.Altering.{changed_alike, unchanged}

@@ -1,6 +1,6 @@
 use Rattle.std.proofs.Common.{◌∙◌, ℕ, List, None, sym, ap}
 use Rattle.std.specs.Map.{lookup}
-use Rattle.cmi5_running_sessions.specs.Entries.{is_empty_slot, is_nothing_said, taken_back}
+use Rattle.cmi5_running_sessions.specs.Maps.{is_empty_slot, is_nothing_said, taken_back}
 use Rattle.cmi5_running_sessions.specs.Kept.{is_same}
 use Rattle.cmi5_running_sessions.specs.declared.own.OwnSaid.{OwnSaid}
 use Rattle.cmi5_running_sessions.proofs.Altering.{changed_at, emptied, left, unchanged_at}

@@ -1,6 +1,6 @@
 use Rattle.std.proofs.Common.{inl, ◌≡◌, ◌∷◌, [], ℕ, List, true, is_some, refl, subst}
 use Rattle.std.proofs.lemmas.Result.{on_ok_weaker}
-use Rattle.cmi5_running_sessions.specs.Entries.{unit_at}
+use Rattle.cmi5_running_sessions.specs.Maps.{unit_at}
 use Rattle.cmi5_running_sessions.specs.Kept.{SeenSessions}
 use Rattle.cmi5_running_sessions.specs.Room.{KeepsSlots, MakesSlots, needs_unit}
 use Rattle.cmi5_running_sessions.proofs.Making.{made_kept, one_made, units_same}

@@ -1,5 +1,5 @@
 use Rattle.std.proofs.Common.{◌∙◌, ℕ, List, refl, ap}
-use Rattle.cmi5_running_sessions.specs.Entries.{kept_in, unit_at}
+use Rattle.cmi5_running_sessions.specs.Maps.{kept_in, unit_at}
 use Rattle.cmi5_running_sessions.specs.Kept.{SeenSessions, nothing_reached, own_of, reached_of}
 use Rattle.cmi5_running_sessions.proofs.Viewing.{viewed}
 use Rattle.cmi5_running_sessions.proofs.sessions.Sessions.view.Goals as goal

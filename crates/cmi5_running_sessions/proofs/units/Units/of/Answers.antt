@@ -1,5 +1,5 @@
 use Rattle.std.proofs.Common.{ℕ, List, subst}
-use Rattle.cmi5_running_sessions.specs.Entries.{MakesAt}
+use Rattle.cmi5_running_sessions.specs.Maps.{MakesAt}
 use Rattle.cmi5_running_sessions.specs.Kept.{is_same, nothing_reached}
 use Rattle.cmi5_running_sessions.specs.declared.units.Reached.{Reached}
 use Rattle.cmi5_running_sessions.proofs.Altering.{some_there}

@@ -5,11 +5,11 @@ use Rattle.lrs_reads.specs.LrsRefusalsJudged.{IsJudgedTree}
 use Rattle.lrs_reads.specs.LrsRefusalsKnown.{TellHeld}
 use Rattle.lrs_reads.specs.LrsRefusalsNaming.{with_these_ids}
 use Rattle.lrs_reads.specs.LrsHistoryEffects.{new_by}
-use Rattle.lrs_ids.proofs.Turns.{turn}
 use Rattle.lrs_learning.specs.LrsPartsParts.{state_of}
 use Rattle.lrs_reads.specs.LrsRefusalsHandedProofs.{tells_more, tells_next}
 use Rattle.lrs_fold.proofs.Pushed.{pushed_more, pushed_no_ids}
 use Rattle.lrs_fold.proofs.fold.Fold.push_left.Goals as goal
+use Rattle.lrs_json.proofs.Lists.{drop_item}
 
 pub is_next_held-is_held-requires : goal.is_next_held-is_held-requires
 is_next_held-is_held-requires c =
@@ -18,7 +18,7 @@ is_next_held-is_held-requires c =
     let at = c.loop-id in
     let id = c.id-item.result in
     tells_next st (into_iter_items at.held) id (drop (at.id-index + 1) ids)
-    (subst (λ (names : List (List ℕ)). TellHeld st (into_iter_items at.held) names) (turn ids at.id-index id c.loop-id-test.true c.id-item.is) at.invariant.told)
+    (subst (λ (names : List (List ℕ)). TellHeld st (into_iter_items at.held) names) (drop_item ids at.id-index id c.loop-id-test.true c.id-item.is) at.invariant.told)
 
 pub push_new-requires-clause-judged : goal.push_new-requires-clause-judged
 push_new-requires-clause-judged c =
@@ -41,11 +41,11 @@ loop-id-preserved c =
     subst (λ ts. at.added.items ++ new_by st c.args.who c.args.moment (with_these_ids (drop at.id-index ids) ts) ≡ all) steps at.invariant.pushed in
     record {
       pushed = pushed_more st c.args.who c.args.moment ids at.id-index id c.in-Some.statement rest at.added.items c.push_new.new.added.items all
-          (turn ids at.id-index id c.loop-id-test.true c.id-item.is) c.in_ok-push_new-in-Some.ensures so_far;
+          (drop_item ids at.id-index id c.loop-id-test.true c.id-item.is) c.in_ok-push_new-in-Some.ensures so_far;
       judged = (subst (λ ts. AllByRecursion IsJudgedTree ts) steps at.invariant.judged).1;
       told = subst (λ (flags : List Bool). TellHeld st flags (drop (at.id-index + 1) ids)) (sym c.is_next_held-is_held.ensures.rest)
           (tells_more st (into_iter_items at.held) id (drop (at.id-index + 1) ids)
-          (subst (λ (names : List (List ℕ)). TellHeld st (into_iter_items at.held) names) (turn ids at.id-index id c.loop-id-test.true c.id-item.is) at.invariant.told));
+          (subst (λ (names : List (List ℕ)). TellHeld st (into_iter_items at.held) names) (drop_item ids at.id-index id c.loop-id-test.true c.id-item.is) at.invariant.told));
     }
 
 pub returns : goal.returns

@@ -6,7 +6,7 @@ use Rattle.lrs_json_reader.specs.Grammar.{Value}
 use Rattle.lrs_json_reader.specs.Flaws.{earlier, earliest}
 use Rattle.lrs_json_reader.specs.Steps.{StepsToNext}
 use Rattle.lrs_json.specs.declared.tree.Member.{Member}
-use Rattle.lrs_json_reader.specs.Reading.{has_some, repeated_among, noted, noted_entry, plain_entry, Pair}
+use Rattle.lrs_json_reader.specs.Reading.{has_items, repeated_among, noted, noted_entry, plain_entry, Pair}
 use Rattle.lrs_json.specs.declared.tree.Tree.{the_lemmas}
 use Rattle.lrs_json_reader.proofs.StepLemmas.{goes_later, goes_at}
 use Rattle.lrs_json_reader.proofs.Readings.{reads_err}
@@ -62,11 +62,11 @@ object-returns-clause-reads t c =
     let size : vec_len c.args.lefts.now ≡ length c.args.lefts.now.items = search rules in
     let parts = stack_parts c.args.lefts.now.items c.loop-members.lefts.items so.own base so.on (c.len-base.ensures ∙ size) in
     let among : List Member → List ℕ → Option ℕ = λ ms lefts. earlier c.loop-members.self.flaws.repeated (earliest (repeated_among [] (map (λ m. (member_view m).0) ms) lefts)) in
-    let flaws = c.deref.result.now in
-    let own = take_rest flaws base ∙ ap (drop base) c.deref.ensures.value ∙ parts.1 in
+    let lefts = c.deref.result.now in
+    let own = take_rest lefts base ∙ ap (drop base) c.deref.ensures.value ∙ parts.1 in
     object_done c.loop-members.members so.own c.args.self.now c.loop-members.self c.note_repeated.new.self c.requires.0 c.requires.1
-    (noted_last.repeated ∙ ap (λ ms. among ms (take (length flaws - base) (drop base flaws))) c.as_slice.ensures ∙ ap (among c.loop-members.members) own) noted_last.out_of_range so.so_far
-    (subst (λ z. StepsToNext (has_some c.loop-members.members) 125 c.loop-members.self.cursor (Ok false) z) (sym noted_last.cursor) (goes_at c.if-branch.false (goes_later c.is_empty.ensures c.in_ok-goes_on.ensures)))
+    (noted_last.repeated ∙ ap (λ ms. among ms (take (length lefts - base) (drop base lefts))) c.as_slice.ensures ∙ ap (among c.loop-members.members) own) noted_last.out_of_range so.so_far
+    (subst (λ z. StepsToNext (has_items c.loop-members.members) 125 c.loop-members.self.cursor (Ok false) z) (sym noted_last.cursor) (goes_at c.if-branch.false (goes_later c.is_empty.ensures c.in_ok-goes_on.ensures)))
 
 pub member-returns-in_err-name-clause-reads : goal.member-returns-in_err-name-clause-reads
 member-returns-in_err-name-clause-reads t c = reads_err Pair plain_entry member_view noted_entry _ _ _ c.from_residual.ensures.1 (λ y is m rest p ends. is ∙ c.in_err-name.ensures.all m.name p.0 p.3)

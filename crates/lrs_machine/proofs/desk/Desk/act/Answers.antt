@@ -1,4 +1,3 @@
-use Rattle.std.proofs.Common.{◌≡◌}
 use Rattle.lrs_fold.specs.LrsHistoryHistory.{answer}
 use Rattle.lrs_machine.specs.Desk.{history}
 use Rattle.lrs_machine.proofs.DeskLemmas.{act_goes_on, act_told, cause_rises, landed_is, marks_stay, receipt_made}

@@ -1,10 +1,9 @@
-use Rattle.std.proofs.Common.{◌≡◌, List, length, ap, refl, sym, subst, ◌∙◌}
+use Rattle.std.proofs.Common.{refl, sym}
 use Rattle.std.specs.Prelude.{option_map, is_ok}
-use Rattle.lrs_fold.specs.LrsHistoryHistory.{answer, outcome}
+use Rattle.lrs_fold.specs.LrsHistoryHistory.{answer}
 use Rattle.lrs_machine.specs.Desk.{Desk}
 use Rattle.lrs_machine.specs.Fold.{state_of}
 use Rattle.lrs_machine.specs.Line.{entries, line_of, sure}
-use Rattle.lrs_machine.specs.Steps.{line_after}
 use Rattle.lrs_machine.proofs.Counts.{counted_next, counts_on, moved_acts}
 use Rattle.lrs_machine.proofs.DeskLemmas.{act_put}
 use Rattle.lrs_machine.proofs.Lines.{noted, not_longer}

@@ -1,4 +1,4 @@
-use Rattle.std.proofs.Common.{◌≡◌, None, true, false, refl, sym, ap, ◌∙◌}
+use Rattle.std.proofs.Common.{None, true, false, refl, sym, ◌∙◌}
 use Rattle.lrs_machine.specs.Fold.{state_of}
 use Rattle.lrs_machine.specs.Line.{line_of}
 use Rattle.lrs_machine.proofs.ActLemmas.{settled_doubt, unsettled_doubt}

@@ -1,4 +1,4 @@
-use Rattle.std.proofs.Common.{◌≡◌, ap, subst, ◌∙◌}
+use Rattle.std.proofs.Common.{ap, subst, ◌∙◌}
 use Rattle.lrs_fold.specs.LrsHistoryHistory.{answer}
 use Rattle.lrs_record.specs.declared.entry.Caller.TheVariants.{Operator}
 use Rattle.lrs_machine.specs.Acts.{Acts}

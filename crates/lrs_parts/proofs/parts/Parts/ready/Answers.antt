@@ -10,8 +10,9 @@ use Rattle.lrs_parts.specs.Parts.{SeenParts}
 use Rattle.lrs_parts.specs.Progress.{IsProgressReadyFor}
 use Rattle.lrs_state.specs.Providers.{token_of}
 use Rattle.lrs_parts.proofs.Kept.{all_ok, kept_still, same_states}
-use Rattle.xapi_docs.specs.Docs as docs
+use Rattle.lrs_register.specs.Slots.{MakesSlots}
 use Rattle.xapi_docs.specs.Docs.{documents_in, is_written}
+use Rattle.xapi_docs.specs.XapiKeysKeys.{key_cmp}
 use Rattle.xapi_statement.specs.Stored.{StoredStatement}
 use Rattle.lrs_parts.proofs.parts.Parts.ready.Goals as goal
 
@@ -57,7 +58,7 @@ returns-clause-made c =
     let new = c.ready_each.new in
     record {
       providers = subst (λ (v : SeenParts). MakesSlotFor (slice_cmp nat_cmp) token_of x.providers v.providers new.providers) c.self.view_is does.made_providers;
-      documents = subst (λ (v : SeenParts). docs.MakesSlots (is_written x.documents) v.documents new.documents) c.self.view_is does.made_documents;
+      documents = subst (λ (v : SeenParts). MakesSlots key_cmp (is_written x.documents) v.documents new.documents) c.self.view_is does.made_documents;
       learning = subst (λ (v : SeenParts). MakesLearningSlots v.learning new.learning x) c.self.view_is does.made_learning;
       sessions = subst (λ (v : SeenParts). room.MakesSlots x.statements v.progress.sessions new.progress.sessions) c.self.view_is does.made_sessions;
     }

@@ -1,11 +1,12 @@
 use Rattle.std.proofs.Common.{◌∙◌, List, ap, inl, subst, sym}
 use Rattle.cmi5_running_sessions.specs.Room as room
+use Rattle.lrs_register.proofs.Ahead.{made_and_back}
 use Rattle.lrs_parts.proofs.Ahead.{back, learning_back}
 use Rattle.lrs_parts.proofs.Kept.{kept_still, said_back, same_states}
 use Rattle.lrs_parts.specs.Parts.{MakesSlotsFor, SeenParts}
 use Rattle.lrs_state.specs.Providers.{token_of}
 use Rattle.xapi_docs.specs.Docs.{documents_in, is_written}
-use Rattle.xapi_docs.proofs.Back.{made_and_back}
+use Rattle.xapi_docs.specs.XapiKeysKeys.{key_cmp}
 use Rattle.xapi_statement.specs.Stored.{StoredStatement}
 use Rattle.lrs_parts.proofs.parts.Parts.release.Goals as goal
 
@@ -34,7 +35,7 @@ returns-clause-undone c = λ before made_before.
     record {
       providers = back token_of x.providers before.providers old.providers c.release.new.self made.providers c.release.ensures.back;
       statements = inl c.release-2.ensures.nothing;
-      documents = made_and_back (is_written x.documents) before.documents old.documents c.release_change.new.self made.documents c.release_change.ensures;
+      documents = made_and_back key_cmp (is_written x.documents) before.documents old.documents c.release_change.new.self made.documents c.release_change.ensures.back;
       learning = learning_back before.learning old.learning c.release-3.new.self x made.learning c.release-3.ensures.back;
       sessions = said_back x.statements before.progress.sessions old.progress.sessions c.release-4.new.self.sessions made.sessions
           (subst (λ (ss : List StoredStatement). room.TakesSlotsBack ss old.progress.sessions c.release-4.new.self.sessions) c.as_slice.ensures c.release-4.ensures.back);

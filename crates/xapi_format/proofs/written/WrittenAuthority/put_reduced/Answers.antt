@@ -1,10 +1,10 @@
 use Rattle.std.proofs.Common.{◌≡◌, ◌++◌, List, ℕ, drop, true, codes, ap, ◌∙◌}
 use Rattle.std.proofs.lemmas.Result.{on_ok_weaker}
 use Rattle.lrs_json.specs.Texts.{member_text}
+use Rattle.lrs_json.proofs.Pieces.{behind}
 use Rattle.xapi_format.specs.Authorities.{account_agent, account_end, account_json, account_name}
 use Rattle.xapi_format.specs.declared.authority.Authority.{Authority}
 use Rattle.xapi_format.proofs.Added.{account_only}
-use Rattle.xapi_format.proofs.Appending.{behind}
 use Rattle.xapi_format.proofs.written.WrittenAuthority.put_reduced.Goals as goal
 
 pub behind-requires : goal.behind-requires

@@ -6,7 +6,7 @@ use Rattle.std.proofs.lemmas.Result.{on_err_weaker, on_ok_weaker}
 use Rattle.xapi_statement_keys.specs.Keys.{is_same_key}
 use Rattle.xapi_statement_keys.specs.declared.key.Key.{Key}
 use Rattle.xapi_postings.specs.Postings.{Changes, SamePostings, posted, posting_of}
-use Rattle.xapi_postings.proofs.Changing.{Entries, listed, put_back, replaced}
+use Rattle.xapi_postings.proofs.Changing.{KeyedPostings, listed, put_back, replaced}
 use Rattle.xapi_postings.proofs.postings.Postings.post.Goals as goal
 
 pub returns-in-Some-clause-posted : goal.returns-in-Some-clause-posted
@@ -41,9 +41,9 @@ post_first-requires c =
 pub returns-in-None-clause-posted : goal.returns-in-None-clause-posted
 returns-in-None-clause-posted c =
     let same = ap (λ (m : BTreeMap Key (List ℕ)). m.entries) c.get_mut.follows.holds-at-none ∙ c.self.view_is in
-    subst (λ (es : Entries). OnOk c.post_first.result (Changes c.args.key.now (posted c.args.position) es c.post_first.new.map.entries)) same c.post_first.ensures.posted
+    subst (λ (es : KeyedPostings). OnOk c.post_first.result (Changes c.args.key.now (posted c.args.position) es c.post_first.new.map.entries)) same c.post_first.ensures.posted
 
 pub returns-in-None-clause-same : goal.returns-in-None-clause-same
 returns-in-None-clause-same c =
     let same = ap (λ (m : BTreeMap Key (List ℕ)). m.entries) c.get_mut.follows.holds-at-none ∙ c.self.view_is in
-    subst (λ (es : Entries). OnErr c.post_first.result (SamePostings es c.post_first.new.map.entries)) same c.post_first.ensures.same
+    subst (λ (es : KeyedPostings). OnErr c.post_first.result (SamePostings es c.post_first.new.map.entries)) same c.post_first.ensures.same

@@ -1,0 +1,7 @@
+use Rattle.std.proofs.Common.{◌≡◌, ◌+◌, not, drop}
+use Rattle.std.specs.List.{prefix_len}
+use Rattle.lrs_decimal.specs.Parts.{is_point}
+use Rattle.lrs_decimal.proofs.parts.point_offset.Given as goal
+
+abbrev pub invariant-loop-i : goal.invariant-loop-i
+invariant-loop-i l = prefix_len (λ b. not (is_point b)) l.bytes ≡ l.i + prefix_len (λ b. not (is_point b)) (drop l.i l.bytes)
