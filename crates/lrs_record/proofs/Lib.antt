@@ -4,8 +4,8 @@ pub mod EntryParts
 pub mod Exactly
 pub mod WriteReading
 pub mod WordReading
-pub mod Writes
 pub mod Telling
+pub mod Writes
 pub mod Readable
 pub mod Told
 pub mod EntryReading

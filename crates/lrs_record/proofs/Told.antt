@@ -15,7 +15,7 @@ use Rattle.lrs_record.specs.declared.entry.Caller.{Caller}
 use Rattle.lrs_record.specs.declared.entry.Caller.TheVariants.{Nobody, Operator, Token}
 use Rattle.lrs_record.specs.declared.entry.Write.{Write}
 use Rattle.lrs_record.specs.declared.entry.Entry.{Entry}
-use Rattle.lrs_record.proofs.Telling.{told_write}
+use Rattle.lrs_record.proofs.Writes.{told_write}
 use Rattle.lrs_record.proofs.EntryParts.{member_texts}
 use Rattle.lrs_record.proofs.Readable.{readable}
 

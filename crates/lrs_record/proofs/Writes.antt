@@ -1,20 +1,27 @@
--- The writes of each name, and the names of their fields. A write more is its `only_`, a line of `well_named`, and one of
--- `told_write`.
-use Rattle.std.proofs.Common.{◌≡◌, ◌&&◌, ℕ, List, [], true, codes, Option, Some, None, refl}
+-- The writes of each name, the names of their fields, and what their members tell. A write more is its `only_`, a line of
+-- `well_named`, and one of `told_write`.
+use Rattle.std.proofs.Common.{◌≡◌, ◌&&◌, ℕ, List, [], ◌∷◌, ◌++◌, true, codes, Option, Some, None, refl, sym, ap, ◌∙◌, subst}
 use Rattle.cmi5_course.specs.declared.launch.Mode.{Mode}
 use Rattle.cmi5_course.specs.declared.reason.Reason.{Reason}
 use Rattle.lrs_agents.specs.declared.agents.Agent.{Agent}
 use Rattle.lrs_agents.specs.declared.identifiers.Ifi.{Ifi}
+use Rattle.lrs_fields.specs.Values.{actor_value, agent_value, bytes_value, id_value, iri_value, number_value, text_value, tree_value, trees_value}
+use Rattle.lrs_fields.specs.Values.{members_for, optional_field}
 use Rattle.lrs_fields.proofs.Apart.{are_apart}
+use Rattle.lrs_json.specs.Json.{string}
 use Rattle.lrs_json.proofs.SmallBytes.{are_small}
 use Rattle.lrs_json.specs.declared.tree.Tree.{Tree}
 use Rattle.lrs_record.specs.Entries.{IsLawfulWrite}
+use Rattle.lrs_record.specs.Reading.{IsKeptWrite}
 use Rattle.lrs_record.specs.Writes.{write_fields, write_name}
 use Rattle.lrs_record.specs.declared.entry.How.{How}
 use Rattle.lrs_record.specs.declared.entry.Write.{Write}
 use Rattle.lrs_record.specs.declared.entry.Write.TheVariants.{Found, Provider, Put, Post, State, Drop}
 use Rattle.lrs_record.specs.declared.entry.Write.TheVariants.{Course, Enrol, Launch, Fetch, Waive, Abandon, Sweep}
-use Rattle.lrs_record.proofs.WriteReading.{other}
+use Rattle.lrs_record.proofs.Telling.{AreTold, DoNotBegin, names_apart, told_last, told_maybe, told_maybe_last, told_next}
+use Rattle.lrs_record.proofs.Telling.{actor_told, agent_told, bytes_told, how_told, id_told, iri_told, mode_told, number_told, reason_told, text_told, tree_told, trees_told}
+use Rattle.lrs_record.proofs.WordReading.{how_value, mode_value, reason_value}
+use Rattle.lrs_record.proofs.WriteReading.{Fields, Only, other}
 use Rattle.xapi_keys.specs.declared.state_key.StateKey.{StateKey}
 
 -- ---- what a write of each name is made of
@@ -145,3 +152,95 @@ well_named (Fetch key) = refl
 well_named (Waive registration unit reason) = refl
 well_named (Abandon session) = refl
 well_named (Sweep idle) = refl
+
+-- ---- what the members of a write of each name tell
+
+-- a document that is written, in parts: with its key's
+abbrev Content : Type 0
+Content = List ℕ × (List ℕ × List ℕ)
+
+abbrev OwnedParts : Type 0
+OwnedParts = List ℕ × (Ifi × (Option (List ℕ) × Content))
+
+abbrev StateParts : Type 0
+StateParts = How × OwnedParts
+
+abbrev state_from : StateParts → Write
+state_from p = State p.0 (record { activity = p.1.0; agent = p.1.1.0; registration = p.1.1.1.0; state = p.1.1.1.1.0 }) p.1.1.1.1.1.0 p.1.1.1.1.1.1
+
+only_parts : (w : Write) → write_name w ≡ codes "state" → (p : StateParts) × (state_from p ≡ w)
+only_parts (State h key media bytes) named = ((h, (key.activity, (key.agent, (key.registration, (key.state, (media, bytes)))))), refl)
+only_parts w named = absurd (other _ _ refl named)
+
+abbrev content_fields : Content → Fields
+content_fields p = (codes "state", text_value p.0) ∷ (codes "type", text_value p.1.0) ∷ (codes "bytes", bytes_value p.1.1) ∷ []
+
+content_apart : DoNotBegin (codes "registration") content_fields
+content_apart p json members same = names_apart (codes "state", string p.0) (codes "registration", json) _ _ refl same
+
+told_content : AreTold content_fields
+told_content =
+    told_next (codes "state") text_value (λ (p : List ℕ × List ℕ). (codes "type", text_value p.0) ∷ (codes "bytes", bytes_value p.1) ∷ []) text_told
+    (told_next (codes "type") text_value (λ bytes. (codes "bytes", bytes_value bytes) ∷ []) text_told (told_last (codes "bytes") bytes_value bytes_told))
+
+told_state : AreTold (λ p. write_fields (state_from p))
+told_state =
+    told_next (codes "how") how_value
+    (λ (p : OwnedParts). (codes "activity", iri_value p.0) ∷ (codes "agent", agent_value p.1.0) ∷ (optional_field (codes "registration") id_value p.1.1.0 ++ content_fields p.1.1.1)) how_told
+    (told_next (codes "activity") iri_value (λ (p : Ifi × (Option (List ℕ) × Content)). (codes "agent", agent_value p.0) ∷ (optional_field (codes "registration") id_value p.1.0 ++ content_fields p.1.1)) iri_told
+    (told_next (codes "agent") agent_value (λ (p : Option (List ℕ) × Content). optional_field (codes "registration") id_value p.0 ++ content_fields p.1) agent_told
+    (told_maybe (codes "registration") id_value content_fields content_apart id_told told_content)))
+
+chosen_apart : DoNotBegin (codes "registration") (optional_field (codes "state") text_value)
+chosen_apart None json members same = absurd (cc same)
+chosen_apart (Some state) json members same = names_apart (codes "state", string state) (codes "registration", json) _ _ refl same
+
+told_drop : AreTold (λ p. write_fields (drop_of p))
+told_drop =
+    told_next (codes "activity") iri_value (λ (p : Ifi × (Option (List ℕ) × Option (List ℕ))). (codes "agent", agent_value p.0) ∷ (optional_field (codes "registration") id_value p.1.0 ++ optional_field (codes "state") text_value p.1.1)) iri_told
+    (told_next (codes "agent") agent_value (λ (p : Option (List ℕ) × Option (List ℕ)). optional_field (codes "registration") id_value p.0 ++ optional_field (codes "state") text_value p.1) agent_told
+    (told_maybe (codes "registration") id_value (optional_field (codes "state") text_value) chosen_apart id_told (told_maybe_last (codes "state") text_value text_told)))
+
+told_launch : AreTold (λ p. write_fields (launch_of p))
+told_launch =
+    told_next (codes "registration") id_value (λ (p : List ℕ × (Mode × Option (List ℕ))). (codes "unit", iri_value p.0) ∷ (codes "mode", mode_value p.1.0) ∷ optional_field (codes "returnURL") iri_value p.1.1) id_told
+    (told_next (codes "unit") iri_value (λ (p : Mode × Option (List ℕ)). (codes "mode", mode_value p.0) ∷ optional_field (codes "returnURL") iri_value p.1) iri_told
+    (told_next (codes "mode") mode_value (optional_field (codes "returnURL") iri_value) mode_told (told_maybe_last (codes "returnURL") iri_value iri_told)))
+
+told_waive : AreTold (λ p. write_fields (waive_of p))
+told_waive =
+    told_next (codes "registration") id_value (λ (p : List ℕ × Reason). (codes "unit", iri_value p.0) ∷ (codes "reason", reason_value p.1) ∷ []) id_told
+    (told_next (codes "unit") iri_value (λ reason. (codes "reason", reason_value reason) ∷ []) iri_told (told_last (codes "reason") reason_value reason_told))
+
+told_found : AreTold (λ p. write_fields (found_of p))
+told_found = told_next (codes "admin") text_value (λ base. (codes "base", text_value base) ∷ []) text_told (told_last (codes "base") text_value text_told)
+
+told_put : AreTold (λ p. write_fields (put_of p))
+told_put = told_next (codes "id") id_value (λ statement. (codes "statement", tree_value statement) ∷ []) id_told (told_last (codes "statement") tree_value tree_told)
+
+told_enrol : AreTold (λ p. write_fields (enrol_of p))
+told_enrol = told_next (codes "course") iri_value (λ actor. (codes "actor", actor_value actor) ∷ []) iri_told (told_last (codes "actor") actor_value actor_told)
+
+-- ---- a name and its members tell the write
+
+-- what the fields of the writes of one name tell
+told : {A : Type 0} (name : List ℕ) (of : A → Write) → Only name of → AreTold (λ a. write_fields (of a)) → (a : A) (w : Write) → name ≡ write_name w → IsKeptWrite (of a) → IsKeptWrite w
+    → members_for (write_fields (of a)) ≡ members_for (write_fields w) → of a ≡ w
+told name of only fields a w named x y same =
+    let own = only w (sym named) in
+    ap of (fields a own.0 x (subst IsKeptWrite (sym own.1) y) (same ∙ ap (λ v. members_for (write_fields v)) (sym own.1))) ∙ own.1
+
+pub told_write : (a b : Write) → write_name a ≡ write_name b → IsKeptWrite a → IsKeptWrite b → members_for (write_fields a) ≡ members_for (write_fields b) → a ≡ b
+told_write (Found admin base) = told (codes "found") found_of only_found told_found (admin, base)
+told_write (Provider name) = told (codes "provider") Provider only_provider (told_last (codes "name") text_value text_told) name
+told_write (Put id statement) = told (codes "put") put_of only_put told_put (id, statement)
+told_write (Post statements) = told (codes "post") Post only_post (told_last (codes "statements") trees_value trees_told) statements
+told_write (State h key media bytes) = told (codes "state") state_from only_parts told_state (h, (key.activity, (key.agent, (key.registration, (key.state, (media, bytes))))))
+told_write (Drop activity agent registration state) = told (codes "drop") drop_of only_drop told_drop (activity, (agent, (registration, state)))
+told_write (Course tree) = told (codes "course") Course only_course (told_last (codes "tree") tree_value tree_told) tree
+told_write (Enrol course actor) = told (codes "enrol") enrol_of only_enrol told_enrol (course, actor)
+told_write (Launch registration unit mode return_url) = told (codes "launch") launch_of only_launch told_launch (registration, (unit, (mode, return_url)))
+told_write (Fetch key) = told (codes "fetch") Fetch only_fetch (told_last (codes "key") text_value text_told) key
+told_write (Waive registration unit reason) = told (codes "waive") waive_of only_waive told_waive (registration, (unit, reason))
+told_write (Abandon session) = told (codes "abandon") Abandon only_abandon (told_last (codes "session") id_value id_told) session
+told_write (Sweep idle) = told (codes "sweep") Sweep only_sweep (told_last (codes "idle") number_value number_told) idle
