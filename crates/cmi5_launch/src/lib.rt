@@ -15,4 +15,7 @@ pub use addresses::launch_address;
 pub use data::launch_data;
 pub use lrs_json::Memory;
 pub use made::{Made, made_statement};
-pub use xapi_statement;
+pub use xapi_statement::{
+    Authority, HeldStatement, StoredStatement, activity_of, extension_of, has_context_activity,
+    has_duration, is_actor, is_voiding, registration_of, result_boolean, scaled_spelling, verb_of,
+};

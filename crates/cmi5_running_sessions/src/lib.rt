@@ -10,7 +10,7 @@ mod sessions;
 mod told;
 mod units;
 
-pub use cmi5_session;
+pub use cmi5_session::SessionView;
 pub use own::OwnSaid;
 pub use sessions::Sessions;
 pub use units::Reached;

@@ -7,9 +7,7 @@ ghost use Rattle.cmi5_running_sessions.specs.Kept.{nothing_said};
 ghost use Rattle.cmi5_session.specs.Own.{says};
 ghost use Rattle.lrs_json.specs.View.{view};
 
-use cmi5_session::cmi5_launch::names::{INITIALIZED, TERMINATED};
-use cmi5_session::says;
-use cmi5_session::xapi_statement::StoredStatement;
+use cmi5_session::{INITIALIZED, StoredStatement, TERMINATED, says};
 use lrs_time::Moment;
 
 /// What a session's own statements said, voided or not.

@@ -11,7 +11,7 @@ ghost use Rattle.lrs_json.specs.View.{view};
 use crate::Reached;
 use crate::told::unit_told;
 use crate::units::Units;
-use cmi5_session::xapi_statement::StoredStatement;
+use cmi5_session::StoredStatement;
 use lrs_json::{Memory, Text, Tree};
 use lrs_names::Id;
 use std::alloc::Global;

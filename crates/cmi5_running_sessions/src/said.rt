@@ -8,7 +8,7 @@ ghost use Rattle.cmi5_running_sessions.specs.Room.{needs_own};
 
 use crate::OwnSaid;
 use crate::told::session_of;
-use cmi5_session::xapi_statement::StoredStatement;
+use cmi5_session::StoredStatement;
 use lrs_json::Memory;
 use lrs_names::Id;
 use std::alloc::Global;

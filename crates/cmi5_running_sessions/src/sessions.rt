@@ -14,8 +14,7 @@ ghost use Rattle.cmi5_session.specs.XapiStatementStored.{StoredStatement as Spec
 use crate::OwnSaid;
 use crate::registrations::ReachedByRegistration;
 use crate::said::SaidBySession;
-use cmi5_session::xapi_statement::StoredStatement;
-use cmi5_session::{Launch, Phase, SessionView};
+use cmi5_session::{Launch, Phase, SessionView, StoredStatement};
 use lrs_json::Memory;
 use lrs_names::Id;
 use lrs_time::Moment;

@@ -9,9 +9,9 @@ ghost use Rattle.lrs_json.specs.View.{view};
 ghost use Rattle.cmi5_session.specs.XapiStatementStatements.{is_that_id};
 ghost use Rattle.cmi5_session.specs.XapiStatementStatement.{activity_of, registration_of};
 
-use cmi5_session::cmi5_launch::names::{COMPLETED, PASSED};
-use cmi5_session::says;
-use cmi5_session::xapi_statement::{Authority, StoredStatement, activity_of, registration_of};
+use cmi5_session::{
+    Authority, COMPLETED, PASSED, StoredStatement, activity_of, registration_of, says,
+};
 use lrs_json::{Text, Tree};
 use lrs_names::Id;
 

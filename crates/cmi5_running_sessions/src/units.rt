@@ -6,8 +6,7 @@ ghost use Rattle.cmi5_running_sessions.specs.Maps.{reached_behind, reached_witho
 ghost use Rattle.cmi5_running_sessions.specs.Kept.{is_same, nothing_reached};
 ghost use Rattle.lrs_json.specs.View.{view};
 
-use cmi5_session::cmi5_launch::names::{COMPLETED, PASSED};
-use cmi5_session::{one_less, one_more, says};
+use cmi5_session::{COMPLETED, PASSED, one_less, one_more, says};
 use lrs_json::{Memory, Text, Tree};
 use std::collections::BTreeMap;
 use std::marker::Model;

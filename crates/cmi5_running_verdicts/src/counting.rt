@@ -16,9 +16,9 @@ ghost use Rattle.cmi5_verdict.specs.XapiStatementStatement.{verb_of};
 use crate::holding::{follow, is_met_with, settle};
 use crate::tally::{Tally, tally_of};
 use cmi5_course::Node;
-use cmi5_verdict::cmi5_launch::names::{COMPLETED, PASSED, SATISFIED, WAIVED};
-use cmi5_verdict::xapi_statement::{StoredStatement, verb_of};
-use cmi5_verdict::{Enrolment, Said, index_meant};
+use cmi5_verdict::{
+    COMPLETED, Enrolment, PASSED, SATISFIED, Said, StoredStatement, WAIVED, index_meant, verb_of,
+};
 use lrs_json::Memory;
 use std::alloc::Global;
 

@@ -8,7 +8,6 @@ mod running;
 mod tally;
 mod telling;
 
-pub use cmi5_verdict;
-pub use cmi5_verdict::xapi_index;
+pub use cmi5_verdict::{Enrolment, Index, Statements, owed, push_if, verdicts, voided_by, waived};
 pub use running::Running;
 pub use tally::Tally;

@@ -17,10 +17,7 @@ ghost use Rattle.cmi5_verdict.specs.XapiStatementStored.{StoredStatement as Spec
 use crate::counting::{count, discount, fresh};
 use crate::tally::Tally;
 use crate::telling::{any_voids, is_all_met_at, is_waived_at, owed_by_tallies, verdicts};
-use cmi5_verdict::xapi_index::Index;
-use cmi5_verdict::xapi_statement::{HeldStatement, StoredStatement};
-use cmi5_verdict::xapi_statement_keys::Key;
-use cmi5_verdict::{Enrolment, Statements, owed};
+use cmi5_verdict::{Enrolment, HeldStatement, Index, Key, Statements, StoredStatement, owed};
 use lrs_json::Memory;
 use std::alloc::Global;
 use std::marker::Model;

@@ -3,8 +3,7 @@ ghost use Rattle.std.specs.Prelude.{◌≡◌, ◌||◌, nat_lt, slice_set};
 ghost use Rattle.cmi5_running_verdicts.specs.Changes.{added, moved, next_unmet, removed, tally_of, untold};
 ghost use Rattle.cmi5_running_verdicts.specs.Tallies.{said_in_tally};
 
-use cmi5_verdict::Said;
-use cmi5_verdict::cmi5_session::{one_less, one_more};
+use cmi5_verdict::{Said, one_less, one_more};
 
 /// What the statements of a registration say of a node, and what is still missing under it.
 #[derive(Clone, Copy)]

@@ -9,8 +9,7 @@ ghost use Rattle.cmi5_verdict.specs.Nodes.{owed, seen};
 ghost use Rattle.cmi5_verdict.specs.Statements.{all_of};
 
 use crate::tally::{Tally, tally_of};
-use cmi5_verdict::xapi_statement::StoredStatement;
-use cmi5_verdict::{Enrolment, Said, Statements, add_new, owed_by_said};
+use cmi5_verdict::{Enrolment, Said, Statements, StoredStatement, add_new, owed_by_said};
 use lrs_json::Memory;
 use std::alloc::Global;
 

@@ -4,7 +4,7 @@ ghost use Rattle.cmi5_session.specs.Own.{is_cmi5_defined, says};
 ghost use Rattle.lrs_json.specs.View.{view};
 
 use cmi5_launch::names::CMI5_CATEGORY;
-use cmi5_launch::xapi_statement::{has_context_activity, verb_of};
+use cmi5_launch::{has_context_activity, verb_of};
 use lrs_json::Tree;
 
 /// Whether cmi5 defines what a statement means (cmi5 Quartz, section 9.6.2.1).

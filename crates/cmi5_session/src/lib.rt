@@ -10,8 +10,12 @@ mod verb;
 mod view;
 
 pub use cmi5_course::{Launch, Mode};
-pub use cmi5_launch;
-pub use cmi5_launch::xapi_statement;
+pub use cmi5_launch::names::{
+    COMPLETED, INITIALIZED, LAUNCH_DATA, PASSED, SATISFIED, TERMINATED, WAIVED,
+};
+pub use cmi5_launch::{
+    Authority, HeldStatement, StoredStatement, activity_of, registration_of, verb_of,
+};
 pub use counting::{one_less, one_more};
 pub use defined::{is_cmi5_defined, says};
 pub use phase::Phase;

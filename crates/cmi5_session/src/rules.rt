@@ -18,7 +18,7 @@ use crate::view::{is_about, is_that_id};
 use crate::{Phase, SessionView};
 use cmi5_course::{Launch, Mode};
 use cmi5_launch::names::{INITIALIZED, MASTERY_SCORE, MOVE_ON_CATEGORY, SESSION_ID};
-use cmi5_launch::xapi_statement::{
+use cmi5_launch::{
     extension_of, has_context_activity, has_duration, is_actor, is_voiding, registration_of,
     result_boolean, scaled_spelling, verb_of,
 };

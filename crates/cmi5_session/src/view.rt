@@ -13,7 +13,7 @@ use crate::Phase;
 use crate::defined::says;
 use cmi5_course::Launch;
 use cmi5_launch::names::{COMPLETED, PASSED};
-use cmi5_launch::xapi_statement::{activity_of, registration_of};
+use cmi5_launch::{activity_of, registration_of};
 use lrs_json::Tree;
 use lrs_names::{Id, Iri};
 

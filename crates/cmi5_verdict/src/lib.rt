@@ -14,8 +14,10 @@ mod said;
 mod statements;
 mod units;
 
-pub use cmi5_session;
-pub use cmi5_session::{cmi5_launch, xapi_statement};
+pub use cmi5_session::{
+    COMPLETED, HeldStatement, LAUNCH_DATA, PASSED, SATISFIED, StoredStatement, WAIVED, one_less,
+    one_more, verb_of,
+};
 pub use enrolment::Enrolment;
 pub use marking::verdicts;
 pub use names::index_meant;
@@ -25,5 +27,4 @@ pub use owing::{owed, owed_by_said};
 pub use said::{Said, add_new};
 pub use statements::{Statements, voided_by};
 pub use units::waived;
-pub use xapi_index;
-pub use xapi_index::xapi_statement_keys;
+pub use xapi_index::{Index, Key};

@@ -12,8 +12,7 @@ ghost use Rattle.cmi5_session.specs.XapiStatementStatements.{is_that_id};
 ghost use Rattle.cmi5_session.specs.XapiStatementStatement.{activity_of, registration_of};
 
 use crate::Enrolment;
-use cmi5_session::xapi_statement::{StoredStatement, activity_of, registration_of};
-use cmi5_session::{is_cmi5_defined, is_that_id};
+use cmi5_session::{StoredStatement, activity_of, is_cmi5_defined, is_that_id, registration_of};
 use itoa::Buffer;
 use lrs_json::Tree;
 use lrs_names::Id;

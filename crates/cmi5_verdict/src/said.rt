@@ -16,11 +16,10 @@ ghost use Rattle.xapi_index.specs.Index.{statements_at};
 use crate::names::index_meant;
 use crate::{Enrolment, Statements};
 use cmi5_course::MoveOn;
-use cmi5_session::cmi5_launch::names::{COMPLETED, PASSED, SATISFIED, WAIVED};
-use cmi5_session::xapi_statement::{HeldStatement, StoredStatement, verb_of};
+use cmi5_session::{COMPLETED, HeldStatement, PASSED, SATISFIED, StoredStatement, WAIVED, verb_of};
 use lrs_json::Memory;
 use std::alloc::Global;
-use xapi_index::xapi_statement_keys::Key;
+use xapi_index::Key;
 
 /// What was said of a node. A voided statement tells only that the node is satisfied.
 #[derive(Clone, Copy)]

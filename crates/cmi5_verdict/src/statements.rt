@@ -3,8 +3,7 @@ ghost use Rattle.std.specs.Prelude.{◌≡◌};
 ghost use Rattle.cmi5_verdict.specs.Statements.{all_of};
 ghost use Rattle.cmi5_session.specs.XapiStatementStatements.{is_target, is_voided, voided_by, voids};
 
-use cmi5_session::is_that_id;
-use cmi5_session::xapi_statement::StoredStatement;
+use cmi5_session::{StoredStatement, is_that_id};
 use lrs_names::Id;
 use xapi_index::Index;
 

@@ -2,6 +2,7 @@
 #![tactic(auto)]
 
 use lrs_app::run;
+use lrs_command_line::tell_fault;
 use lrs_console::{Ending, finish};
 use lrs_edge::{FileShelf, StdSink, StdSource, TcpLobby};
 use lrs_json::Text;
@@ -42,9 +43,10 @@ fn arguments(rt: &(impl Env + AllocGlobal)) -> Result<Vec<Text>, Ending> {
     Ok(texts)
 }
 
-// The program's end. If the words are no command, standard error tells what they can be.
-fn exit(rt: &impl Eprint, status: u8) -> ExitCode {
+// The program's end. If the words are no command, standard error tells which one is wrong, and what they can be.
+fn exit(rt: &(impl Eprint + AllocGlobal), status: u8, words: Option<&[Text]>) -> ExitCode {
     if status == NO_COMMAND {
+        tell_fault(rt, words);
         let _ = rt.eprintln(USAGE);
     }
     ExitCode::from(status)
@@ -54,7 +56,7 @@ fn main(rt: HostRuntime) -> ExitCode {
     let mut out = StdSink::new(rt.stdout());
     let words = match arguments(&rt) {
         Ok(words) => words,
-        Err(ending) => return exit(&rt, finish(&mut out, ending)),
+        Err(ending) => return exit(&rt, finish(&mut out, ending), None),
     };
     let mut seed = [0; 32];
     if rt.fill_bytes(&mut seed).is_err() {
@@ -74,5 +76,5 @@ fn main(rt: HostRuntime) -> ExitCode {
         &mut out,
         seed,
     );
-    exit(&rt, ended.status)
+    exit(&rt, ended.status, Some(words.as_slice()))
 }

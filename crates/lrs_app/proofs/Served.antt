@@ -39,7 +39,12 @@ use Rattle.lrs_console.specs.declared.ending.Ending.TheVariants as ending
 any_next : {A : Type 0} (P : A → Type 0) (x : A) (xs : List A) → Any P xs → Any P (x ∷ xs)
 any_next P x xs any = (suc any.0, any.1, (let near = any.2 in omega (arith, near)), any.3, any.4)
 
--- the door of the first worker that didn't end well has failed
+behind_memory : (e : ServeEnd) → end_with serve.Memory e ≡ serve.DoorFault → e ≡ serve.DoorFault
+behind_memory serve.DoorFault is = refl
+behind_memory serve.Done is = absurd (let no : ⊥ = cc is in no)
+behind_memory serve.Memory is = absurd (let no : ⊥ = cc is in no)
+
+-- if they ended with a door's fault, the door of a worker has failed
 door_failed : (limit : ℕ) (line : List Record) (opened : ℕ) (start end : Tide) (connections : ℕ) (seed : List ℕ) (n : ℕ) (stints : List Stint) → AreStints limit line opened start end connections seed n stints
     → AllByRecursion IsFresh (map (λ (s : Stint). s.before) stints) → end_of (map (λ (s : Stint). s.end) stints) ≡ serve.DoorFault → Any (λ (d : DoorState). 0 < d.faults) (map (λ (s : Stint). s.behind) stints)
 door_failed limit line opened start end connections seed n [] all fresh is = absurd (let no : ⊥ = cc is in no)
@@ -53,7 +58,7 @@ door_failed limit line opened start end connections seed n (s ∷ stints) all fr
         let none = fresh.0.no_fault in
         let failed : 0 < s.behind.faults = ⊎_elim (λ h. omega (arith, none, h)) (λ h. omega (arith, h)) why.2 in
         (0, s.behind, omega arith, refl, failed)
-    by_end serve.Memory why is more = absurd (let no : ⊥ = cc is in no)
+    by_end serve.Memory why is more = any_next (λ (d : DoorState). 0 < d.faults) s.behind (map (λ (t : Stint). t.behind) stints) (more (behind_memory (end_of (map (λ (t : Stint). t.end) stints)) is))
 
 served_cause : (limit : ℕ) (opened line : List Record) (start end : Tide) (connections : ℕ) (seed : List ℕ) (openings closings : List DoorState) (talks : List (List Talk)) (why : ServeEnd) (address : List ℕ) (workers : ℕ) (before after : Doors)
     → ServesDoors limit opened line start end connections seed openings closings talks why → HadDoors address workers openings closings before after → HasLobbyCause before after (ending_of_serving why talks)
@@ -92,10 +97,11 @@ module _ {D : Type 0} (d : disks.Ghosts D) (counts_now : (x : D) (t : ℕ) (c : 
   -- what is the same however the closing ends
   served_with : (openings closings : List DoorState) (why : ServeEnd) (last : Ending) → ServesDoors desk.limit desk.line mid.line (tide_at d.fault_count d.time desk.disk) (tide_at d.fault_count d.time mid.disk) connections seed openings closings talks why
       → (last ≡ ending.DiskFault → in_doubt mid.line ≡ true)
+      → (last ≢ ending.DiskFault → d.fault_count disk ≡ d.fault_count mid.disk)
       → ForSome (d.told mid.disk) (λ _. HoldsAfter last (in_doubt mid.line) (d.told disk) desk.limit (history mid))
       → (last ≢ ending.DiskFault → (c : List ℕ) → d.image disk c → Stands c mid.limit (map written_entry (history mid)))
       → HoldsServed d (taken_now d desk.disk) disk desk.limit (history desk) connections seed openings closings talks n why last
-  served_with openings closings why last serves doubtful holds durable =
+  served_with openings closings why last serves doubtful well holds durable =
       let here : IsLegal desk.limit (history mid) = subst (λ (l : ℕ). IsLegal l (history mid)) on.limit legal in
       let same = opened.moment in
       let on_later = on.later in
@@ -113,6 +119,7 @@ module _ {D : Type 0} (d : disks.Ghosts D) (counts_now : (x : D) (t : ℕ) (c : 
         within = within_wider (tide_at d.fault_count d.time desk.disk) (tide_at d.fault_count d.time mid.disk) (tide_at d.fault_count d.time desk.disk)
             (tide_at d.fault_count d.time disk) (receipts_of_all talks) (omega arith) (omega arith) risen passed within;
         doubtful = doubtful;
+        well = well;
         holds = still_told (d.told desk.disk) (d.told mid.disk) _ on.tells holds;
         stops = λ told is. (stops_from d counts_now only_now desk mid disk opened on stops told is).each;
         kept = λ told is.
@@ -135,7 +142,8 @@ module _ {D : Type 0} (d : disks.Ghosts D) (counts_now : (x : D) (t : ℕ) (c : 
   stops_here = stops_from d counts_now only_now desk mid disk opened on stops
 
   module _ (holds : ForSome (d.told mid.disk) (λ _. LeavesStore d.told disk mid.limit false (history mid)))
-      (durable : (c : List ℕ) → d.image disk c → Stands c mid.limit (map written_entry (history mid))) where
+      (durable : (c : List ℕ) → d.image disk c → Stands c mid.limit (map written_entry (history mid)))
+      (kept : d.fault_count disk ≡ d.fault_count mid.disk) where
     leaves : mid ≡ desk → LeavesFinal d (taken_now d desk.disk) disk desk.limit (history desk) (history desk) n end
     leaves same =
         subst (λ (h : List Entry). LeavesFinal d (taken_now d desk.disk) disk desk.limit (history desk) h n end) (ap (λ (m : Desk D). history m) same)
@@ -156,7 +164,7 @@ module _ {D : Type 0} (d : disks.Ghosts D) (counts_now : (x : D) (t : ℕ) (c : 
             doors = had.doors;
             why = had.why;
             ended = inl had.ended;
-            served = served_with had.openings had.closings had.why end serves (λ is. absurd (well_served had.why talks (sym had.ended ∙ is)))
+            served = served_with had.openings had.closings had.why end serves (λ is. absurd (well_served had.why talks (sym had.ended ∙ is))) (λ _. kept)
                 (λ told is. subst (λ (e : Ending). HoldsAfter e (in_doubt mid.line) (d.told disk) desk.limit (history mid)) (sym had.ended)
                 (holds_whole had.why talks (in_doubt mid.line) (d.told disk) desk.limit (history mid)
                 (subst (λ (l : ℕ). Holds (d.told disk) l (history mid)) on.limit (holds told is)))) (λ well. durable);
@@ -201,7 +209,7 @@ module _ {D : Type 0} (d : disks.Ghosts D) (counts_now : (x : D) (t : ℕ) (c : 
           doors = had.doors;
           why = had.why;
           ended = inr (refl, behind_all (tide_at d.fault_count d.time desk.disk) (tide_at d.fault_count d.time mid.disk) (receipts_of_all talks) (d.fault_count disk) within rises);
-          served = served_with had.openings had.closings had.why ending.DiskFault doors (λ is. doubt)
+          served = served_with had.openings had.closings had.why ending.DiskFault doors (λ is. doubt) (λ well. absurd (well refl))
               (λ told is. (doubt, subst (λ (l : ℕ). HoldsIn true (d.told disk) l (history mid)) on.limit (holds told is))) (λ well. absurd (well refl));
           begins = entries_begin desk.line mid.line on.begins;
           stops = stops_here;
@@ -272,6 +280,7 @@ opened_serves d counts_now only_now first desk disk address workers connections 
           within = within_wider (tide_at d.fault_count d.time desk.disk) (tide_at d.fault_count d.time disk) (tide_at d.fault_count d.time first)
               (tide_at d.fault_count d.time disk) (receipts_of_all talks) (omega (arith, kept)) moment (omega arith) (omega arith) s.within;
           doubtful = s.doubtful;
+          well = s.well;
           holds = still_told (d.told first) (d.told desk.disk) _ alike s.holds;
           stops = stops_since d counts_now only_now first desk disk (entries s.line) had.begins synced opens alike had.stops;
           kept = still_told (d.told first) (d.told desk.disk) _ alike s.kept;

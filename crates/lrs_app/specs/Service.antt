@@ -135,6 +135,8 @@ pub record HoldsServed {D : Type 0} (d : disks.Ghosts D) (taken : Taken) (disk :
   pub within : AreWithin taken.tide (tide_at d.fault_count d.time disk) (receipts_of_all talks)
   -- the disk fails at the closing only if the last entry is in doubt
   pub doubtful : end ≡ ending.DiskFault → in_doubt line ≡ true
+  -- no call of the disk fails at the closing unless the ending says so
+  pub well : end ≢ ending.DiskFault → d.fault_count disk ≡ served.faults
   -- the disk holds the history
   pub holds : ForSome taken.held (λ _. HoldsAfter end (in_doubt line) (d.told disk) limit (entries line))
   -- a stop at any moment leaves its first entries, at least those at the opening

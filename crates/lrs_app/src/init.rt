@@ -10,7 +10,7 @@ ghost use Rattle.lrs_journal.specs.Store.{IsLimit};
 
 use lrs_console::Ending;
 use lrs_disk::Disk;
-use lrs_hall::lrs_machine::{Desk, FoundRefused};
+use lrs_hall::{Desk, FoundRefused};
 use lrs_json::Text;
 use std::alloc::Global;
 

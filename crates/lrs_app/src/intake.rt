@@ -16,7 +16,7 @@ ghost use Rattle.lrs_app.specs.Run.{EndsOpened, IntakeEnds, HasEndingCause};
 
 use lrs_console::{Ending, take_statement};
 use lrs_disk::{Disk, Source};
-use lrs_hall::lrs_machine::{Answered, Desk, DeskRefused, Refusal, Trouble};
+use lrs_hall::{Answered, Desk, DeskRefused, Refusal, Trouble};
 use lrs_json::Tree;
 use lrs_names::{Draw, Id};
 use std::alloc::Global;

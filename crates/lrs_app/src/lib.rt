@@ -8,6 +8,5 @@ mod load;
 mod program;
 mod serve;
 
-pub use lrs_hall;
-pub use lrs_hall::lrs_machine;
+pub use lrs_hall::{Finish, Receipt, Talk};
 pub use program::{Ended, Report, run};

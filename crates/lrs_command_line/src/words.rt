@@ -25,13 +25,13 @@ const DEFAULT_BASE: &str = "http://127.0.0.1:8080/";
 const DEFAULT_LIMIT: u64 = 268_435_456;
 
 /// How many digits a number may have.
-const MOST_DIGITS: usize = 20;
+pub(crate) const MOST_DIGITS: usize = 20;
 
-/// How many connections a worker may be asked to serve.
-const MOST_CONNECTIONS: u64 = 10_000;
+/// The most connections that a worker may be asked to serve.
+pub(crate) const MOST_CONNECTIONS: u64 = 10_000;
 
-/// How many statements may be loaded.
-const MOST_STATEMENTS: u64 = 100_000;
+/// The most statements that may be loaded.
+pub(crate) const MOST_STATEMENTS: u64 = 100_000;
 
 /// A command of the program with what its words name.
 #[derive(Drop)]

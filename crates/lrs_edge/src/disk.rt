@@ -3,7 +3,7 @@ ghost use Rattle.lrs_disk.specs.Faults.{HasCause};
 
 use crate::ahead::ReadAhead;
 use crate::faults::Faults;
-use crate::file::OptionalFile;
+use crate::file::{OWNER_ALONE, OptionalFile};
 use crate::reports::report;
 use lrs_disk::{Disk, Failed};
 use std::alloc::Global;
@@ -12,9 +12,6 @@ use std::io::{self, ErrorKind};
 use std::os::unix::fs::OpenOptionsExt;
 use std::path::Path;
 use std::rt::Files;
-
-// The file of a store holds tokens as they are.
-const OWNER_ALONE: u32 = 0o600;
 
 // A name and its file, if there is one.
 #[derive(Drop)]
@@ -153,8 +150,12 @@ impl<R: Files<File = File> + Eprint + Copy> Content<R> {
         }
     }
 
-    // Makes the file first, if there is none.
+    // Makes the file first, if there is none. The first byte is written when a store is made, before its tokens are: a
+    // file that was there is then left to its owner alone.
     fn write_at(&mut self, offset: u64, bytes: &[u8]) -> io::Result<()> {
+        if offset == 0 {
+            self.file.inner().protect()?;
+        }
         if !self.file.inner().is_there() {
             let file = make(&self.rt, self.name.as_str())?;
             self.file.replace(OptionalFile::new(Some(file)));

@@ -1,9 +1,15 @@
 ghost use Rattle.std.specs.Prelude.{◌≤◌, None, IfOk, length};
 
 use crate::ahead::Bytes;
-use std::fs::File;
+use std::fs::{File, Permissions};
 use std::io::{self, ErrorKind};
-use std::os::unix::fs::FileExt;
+use std::os::unix::fs::{FileExt, PermissionsExt};
+
+// The file of a store holds tokens as they are.
+pub(crate) const OWNER_ALONE: u32 = 0o600;
+
+// What others than its owner may do with a file.
+const OF_OTHERS: u32 = 0o077;
 
 // A file, if there is one. Without one there is nothing to read.
 #[derive(Drop)]
@@ -25,6 +31,18 @@ impl OptionalFile {
             Some(file) => Ok(file.metadata()?.len()),
             None => Ok(0),
         }
+    }
+
+    // Leaves a file to its owner alone. What is no file, such as a device, stays as it is.
+    pub(crate) fn protect(&self) -> io::Result<()> {
+        let Some(file) = &self.file else {
+            return Ok(());
+        };
+        let found = file.metadata()?;
+        if !found.is_file() || found.permissions().mode() & OF_OTHERS == 0 {
+            return Ok(());
+        }
+        file.set_permissions(Permissions::from_mode(OWNER_ALONE))
     }
 }
 

@@ -40,7 +40,8 @@ impl<R: Files<File = File> + AllocGlobal + Eprint + Copy> Shelf for FileShelf<R>
     ghost fault_count = { λ s. s.faults.count };
 
     /// Opens the file of a name. One that isn't there reads as empty, and is made at the first write, for its owner
-    /// alone. The entry of its folder is on the disk, too, when this or that write answers. The file is locked until
+    /// alone. The entry of its folder is on the disk, too, when this or that write answers. A file that is there is left
+    /// to its owner alone when its first byte is written, as only the making of a store does. The file is locked until
     /// the disk is dropped: if it is locked already this fails.
     fn take(&mut self, name: &str) -> Result<FileDisk<R>, Failed> {
         match open(self.rt.alloc(), self.rt, name) {

@@ -5,7 +5,7 @@ ghost use Rattle.lrs_learning.specs.LrsPartsParts.{state_of};
 
 use lrs_command::Who;
 use lrs_json::Memory;
-use lrs_learning::lrs_parts::Parts;
+use lrs_learning::Parts;
 use xapi_statement::Authority;
 
 /// The caller's authority, a copy of its own.

@@ -28,10 +28,12 @@ use crate::{Fold, Spent};
 use lrs_agents::Ifi;
 use lrs_command::Who;
 use lrs_json::{Items, Memory, Text, Tree};
-use lrs_learning::lrs_parts::{Acceptance, Effect, Founding, HeldProvider, ProvidersChange};
-use lrs_learning::{abandoning_one, enrolling, fetching, launching, sweeping, taking, waiving};
+use lrs_learning::{
+    Acceptance, Effect, Founding, HeldProvider, ProvidersChange, abandoning_one, enrolling,
+    fetching, launching, sweeping, taking, waiving,
+};
 use lrs_names::{Draw, Id, Iri};
-use lrs_reads::lrs_refusals::{Batch, Known, batch_of, who_is};
+use lrs_reads::{Batch, Known, batch_of, who_is};
 use lrs_record::{Entry, How, Moment, Write};
 use lrs_replies::token_text;
 use std::alloc::Global;

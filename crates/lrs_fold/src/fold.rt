@@ -6,7 +6,7 @@ ghost use Rattle.xapi_index.specs.Ahead.{AreTextsOf};
 ghost use Rattle.lrs_learning.specs.LrsStateState.{apply, nothing};
 
 use lrs_json::Memory;
-use lrs_learning::lrs_parts::{Effect, Parts, SpentEffect};
+use lrs_learning::{Effect, Parts, SpentEffect};
 use std::alloc::Global;
 use std::vec::IntoIter;
 use xapi_statement::ReceivedText;
@@ -58,5 +58,10 @@ impl Fold {
         ensures { state_of self.new.parts ≡ apply (state_of self.old.parts) effect }
     {
         self.parts.install(effect)
+    }
+
+    /// Drops it. Crates above call this in place of `drop`, so that what drops it is proved here alone.
+    pub fn discard(self) {
+        drop(self);
     }
 }

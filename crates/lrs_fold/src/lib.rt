@@ -18,7 +18,7 @@ mod spent;
 
 pub use fold::Fold;
 pub use listed::post_of;
-pub use lrs_reads::{lrs_history, lrs_refusals};
+pub use lrs_reads::{Submission, barred, who_is};
 pub use outcome::{Accepted, Outcome, entry_text};
 pub use own::{founding_entry, put_of};
 pub use spent::Spent;

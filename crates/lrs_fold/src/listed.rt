@@ -7,8 +7,7 @@ ghost use Rattle.lrs_reads.specs.XapiPagesListings.{listed_of_all};
 use crate::Fold;
 use lrs_command::Command;
 use lrs_json::{Items, Tree};
-use lrs_reads::lrs_refusals::Submission;
-use lrs_reads::xapi_pages::count_listed;
+use lrs_reads::{Submission, count_listed};
 use lrs_record::Write;
 
 /// The post of statements. Their form is judged when it is answered.

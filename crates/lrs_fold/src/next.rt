@@ -11,8 +11,8 @@ ghost use Rattle.lrs_record.specs.Entries.{IsLawfulWrite};
 use crate::{Fold, Spent};
 use lrs_command::Who;
 use lrs_json::Memory;
-use lrs_learning::lrs_parts::{Effect, is_base, is_token};
-use lrs_reads::lrs_refusals::{Known, refusal, who_is};
+use lrs_learning::{Effect, is_base, is_token};
+use lrs_reads::{Known, refusal, who_is};
 use lrs_record::{Caller, Entry, Write};
 use std::alloc::Global;
 

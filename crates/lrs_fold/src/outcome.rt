@@ -18,11 +18,11 @@ use crate::saying::write_said;
 use crate::{Fold, Spent};
 use lrs_command::{Area, Command, Who};
 use lrs_json::{Items, Memory};
-use lrs_learning::lrs_parts::Effect;
+use lrs_learning::Effect;
 use lrs_names::Draw;
-use lrs_reads::lrs_history::{barred, refused_with};
-use lrs_reads::lrs_refusals::{Form, Known, PreparedTexts, Submission, refusal, who_is};
-use lrs_reads::read_answered;
+use lrs_reads::{
+    Form, Known, PreparedTexts, Submission, barred, read_answered, refusal, refused_with, who_is,
+};
 use lrs_record::{Caller, Entry, Moment, Write, write_entry, write_headed};
 use lrs_replies::{Answered, Refusal};
 use std::alloc::Global;

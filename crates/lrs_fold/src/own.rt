@@ -6,7 +6,7 @@ ghost use Rattle.lrs_record.specs.Entries.{IsLawfulCaller, IsLawfulWrite};
 use lrs_command::Command;
 use lrs_json::{Memory, Text, Tree};
 use lrs_names::{Draw, Id};
-use lrs_reads::lrs_refusals::Submission;
+use lrs_reads::Submission;
 use lrs_record::{Caller, Entry, Moment, Write};
 
 /// The put of a statement under an id. Its form is judged when it is answered.

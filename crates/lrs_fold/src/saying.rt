@@ -4,7 +4,7 @@ ghost use Rattle.lrs_reads.specs.LrsHistoryAnswers.{acceptance_said, write_said}
 ghost use Rattle.lrs_replies.specs.declared.answered.Answered.TheVariants.{Kept, Same, Shown};
 
 use lrs_json::{Items, Memory};
-use lrs_learning::lrs_parts::{Acceptance, Effect};
+use lrs_learning::{Acceptance, Effect};
 use lrs_replies::{
     Answered, course_text, ids_text, key_used_text, launch_text, provider_text, registration_text,
     session_closed_text, session_token_text, swept_text,

@@ -2,8 +2,8 @@ ghost use Rattle.std.specs.Prelude.{◌≡◌, take};
 
 use crate::Accepted;
 use lrs_json::{Items, Tree};
-use lrs_learning::lrs_parts::{Effect, SpentEffect};
-use lrs_reads::lrs_refusals::PreparedTexts;
+use lrs_learning::{Effect, SpentEffect};
+use lrs_reads::PreparedTexts;
 use lrs_record::{Caller, Entry};
 use std::alloc::Global;
 use xapi_statement::ReceivedText;
@@ -116,5 +116,10 @@ impl Spent {
     pub fn set_kept(&mut self, effect: SpentEffect, text: Items<u8>) {
         self.effect = effect;
         self.text = text;
+    }
+
+    /// Drops it. Crates above call this in place of `drop`, so that what drops it is proved here alone.
+    pub fn discard(self) {
+        drop(self);
     }
 }

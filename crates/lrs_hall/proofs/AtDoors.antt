@@ -89,7 +89,11 @@ numbered_more {O} seed k n ws next w numbered draws is pushed = subst (λ (l : L
 end_both : (a b c : ServeEnd) → end_with (end_with a b) c ≡ end_with a (end_with b c)
 end_both serve.Done b c = refl
 end_both serve.DoorFault b c = refl
-end_both serve.Memory b c = refl
+end_both serve.Memory serve.DoorFault c = refl
+end_both serve.Memory serve.Done c = refl
+end_both serve.Memory serve.Memory serve.DoorFault = refl
+end_both serve.Memory serve.Memory serve.Done = refl
+end_both serve.Memory serve.Memory serve.Memory = refl
 
 end_alone : (a : ServeEnd) → end_with a serve.Done ≡ a
 end_alone serve.Done = refl

@@ -42,13 +42,15 @@ AreStints limit line opened opening closing connections seed number (stint ∷ s
     IsStint limit line opened opening closing connections (start_of seed number) stint
     × AreStints limit line opened opening closing connections seed (number + 1) stints
 
--- unless the first one was done, it is how it ended
+-- how both ended: a door that failed goes first, then want of memory
 abbrev pub end_with : ServeEnd → ServeEnd → ServeEnd
 end_with serve.Done next = next
 end_with serve.DoorFault next = serve.DoorFault
-end_with serve.Memory next = serve.Memory
+end_with serve.Memory serve.DoorFault = serve.DoorFault
+end_with serve.Memory serve.Done = serve.Memory
+end_with serve.Memory serve.Memory = serve.Memory
 
--- all were done, or the first that wasn't ended so
+-- how all ended
 abbrev pub end_of : List ServeEnd → ServeEnd
 end_of [] = serve.Done
 end_of (end ∷ ends) = end_with end (end_of ends)

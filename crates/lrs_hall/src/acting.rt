@@ -137,6 +137,6 @@ pub(crate) fn look<R: Wait, D: Disk, O: Door>(
         clock,
         &draw,
     );
-    drop(spent);
+    spent.discard();
     Looked::Barred(reply, receipt)
 }

@@ -93,12 +93,12 @@ fn serve_read<R: Wait, D: Disk, O: Door>(
         Ok(command) => {
             let (reply, receipt, spent) = act(rt, turns, pass, door, draws, routed.caller, command);
             let sent = write_reply(link, &reply, closes);
-            drop(reply);
-            drop(spent);
+            reply.discard();
+            spent.discard();
             (receipt, sent)
         }
         Err(Memory) => {
-            drop(routed);
+            routed.discard();
             answer_fixed(link, RouteRefused::Memory, closes)
         }
     }
@@ -146,7 +146,7 @@ fn serve_routed<R: Wait, D: Disk, O: Door>(
         }
         Looked::Barred(reply, receipt) => {
             let sent = write_reply(link, &reply, closes);
-            drop(reply);
+            reply.discard();
             (receipt, sent)
         }
     }
@@ -182,11 +182,11 @@ fn serve<R: Wait, D: Disk, O: Door>(
             let served = serve_routed(
                 rt, alloc, turns, pass, door, link, draws, admitted, routed, &request, closes,
             );
-            drop(request);
+            request.discard();
             served
         }
         Err(refused) => {
-            drop(request);
+            request.discard();
             answer_fixed(link, refused, closes)
         }
     }

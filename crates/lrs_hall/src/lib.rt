@@ -20,7 +20,9 @@ pub use laws::{
     law_of_entries, law_of_one_stream, law_of_one_worker, law_of_order, law_of_own_entries,
     law_of_points, law_of_receipts, law_of_unread_requests,
 };
-pub use lrs_machine;
+pub use lrs_machine::{
+    Answered, Desk, DeskRefused, FoundRefused, Receipt, Record, Refusal, Trouble, is_base, is_token,
+};
 pub use serving::ServeEnd;
 pub use talk::{Finish, Talk};
 pub use workers::serve_all;

@@ -219,13 +219,14 @@ where
     workers
 }
 
-// The first end, unless it is that all was done.
+// How two workers ended: a door that failed goes first, then want of memory.
 fn end_with(end: ServeEnd, next: ServeEnd) -> ServeEnd
     ensures { result ≡ end_with end next }
 {
-    match end {
-        ServeEnd::Done => next,
-        ServeEnd::DoorFault | ServeEnd::Memory => end,
+    match (end, next) {
+        (ServeEnd::DoorFault, _) | (_, ServeEnd::DoorFault) => ServeEnd::DoorFault,
+        (ServeEnd::Memory, _) | (_, ServeEnd::Memory) => ServeEnd::Memory,
+        (ServeEnd::Done, ServeEnd::Done) => ServeEnd::Done,
     }
 }
 

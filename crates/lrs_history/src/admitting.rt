@@ -6,7 +6,7 @@ ghost use Rattle.lrs_history.specs.Refusals.{barred, refused_actor, refused_agen
 ghost use Rattle.lrs_history.specs.Sessions.{is_its_own, outside, over_state, overstepped};
 
 use cmi5_course::Launch;
-use cmi5_verdict::cmi5_launch::names::LAUNCH_DATA;
+use cmi5_verdict::LAUNCH_DATA;
 use lrs_agents::{Agent, Ifi};
 use lrs_command::{Area, CONTENT_TOO_LARGE, NOT_FOUND, Who};
 use lrs_json::Text;

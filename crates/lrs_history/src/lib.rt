@@ -9,5 +9,3 @@ pub use admitting::{
     LONGEST_DOCUMENT, LONGEST_MEDIA, MOST_OF_BATCH, barred, outside, overstepped, refused_actor,
     refused_agent, refused_document, refused_idle, refused_name, refused_with,
 };
-pub use cmi5_verdict::{cmi5_launch, cmi5_session};
-pub use xapi_pages;

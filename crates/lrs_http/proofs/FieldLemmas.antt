@@ -1,6 +1,6 @@
 -- What fields say, one after the other.
-use Rattle.std.proofs.Common.{◌≡◌, ℕ, ◌+◌, ◌<◌, ◌≤◌, Bool, true, false, cond, List, [], ◌∷◌, length, take, drop, get_or, Some, None, Result, Err, refl, sym, ap, ◌∙◌, arith, inl, inr, ⊎_elim, add-one, drop-cons}
-use Rattle.std.specs.Prelude.{IsTrue, ◌↔◌, map, nat_lt, ◌&&◌, ◌||◌, IsUtf8}
+use Rattle.std.proofs.Common.{◌≡◌, ℕ, ◌+◌, ◌<◌, ◌≤◌, Bool, true, false, cond, List, [], ◌∷◌, length, take, drop, get_or, Option, Some, None, Result, Err, refl, sym, ap, ◌∙◌, arith, inl, inr, ⊎_elim, add-one, drop-cons}
+use Rattle.std.specs.Prelude.{IsTrue, ◌↔◌, map, codes, nat_lt, ◌&&◌, ◌||◌, IsUtf8}
 use Rattle.std.specs.List.{list_all, list_any, slice_split, position_or_len}
 use Rattle.std.proofs.lemmas.List.Splits.{slice_split_first}
 use Rattle.std.specs.Str.{str_eq_ignore_ascii_case, is_utf8}
@@ -14,7 +14,7 @@ use Rattle.httparse.specs.Spans.{header_bytes}
 use Rattle.lrs_http.specs.declared.fields.TheConstants.{MOST_LENGTH_DIGITS}
 use Rattle.lrs_http.specs.declared.request.RequestRefused.{RequestRefused}
 use Rattle.lrs_http.specs.declared.request.RequestRefused.TheVariants as refused
-use Rattle.lrs_http.specs.Fields.{NameAndValue, is_named, first_value, count_named, is_length, is_close, is_comma, asks_to_close}
+use Rattle.lrs_http.specs.Fields.{NameAndValue, is_named, first_value, count_named, is_length, is_text, is_close, is_comma, asks_to_close}
 use Rattle.lrs_http.specs.Head.{HeadParts, announced, has_texts, body_length, method_of}
 use Rattle.lrs_http.specs.Reading.{IsNoText}
 use Rattle.lrs_media.proofs.Trimming.{named_is}
@@ -34,6 +34,34 @@ first_later name field fields is = rw is refl
 pub first_none : (name : List ℕ) → first_value name [] ≡ None
 unfolding first_value
 first_none name = refl
+
+-- ---- values that are no texts
+
+and_middle : (a b c : Bool) → b ≡ false → (a && (b && c)) ≡ false
+and_middle true b c e = rw e refl
+and_middle false b c e = refl
+
+and_last : (a b c : Bool) → c ≡ false → (a && (b && c)) ≡ false
+and_last true true c e = e
+and_last true false c e = refl
+and_last false b c e = refl
+
+no_texts : (refusal : RequestRefused) (one all : Bool) → (one ≡ false → all ≡ false) → IsNoText one refusal → IsNoText all refusal
+no_texts refusal one all so why = ⊎_elim (λ memory. inl memory) (λ bad. inr (bad.0, so bad.1)) why
+
+pub no_media : (fields : List NameAndValue) (value : Option (List ℕ)) (refusal : RequestRefused) → value ≡ first_value (codes "content-type") fields
+    → IsNoText (is_text value) refusal → IsNoText (has_texts fields) refusal
+unfolding has_texts
+no_media fields value refusal is why =
+    no_texts refusal (is_text value) (has_texts fields) (λ e. and_middle (is_text (first_value (codes "authorization") fields)) (is_text (first_value (codes "content-type") fields))
+    (is_text (first_value (codes "x-experience-api-version") fields)) (ap is_text (sym is) ∙ e)) why
+
+pub no_version : (fields : List NameAndValue) (value : Option (List ℕ)) (refusal : RequestRefused) → value ≡ first_value (codes "x-experience-api-version") fields
+    → IsNoText (is_text value) refusal → IsNoText (has_texts fields) refusal
+unfolding has_texts
+no_version fields value refusal is why =
+    no_texts refusal (is_text value) (has_texts fields) (λ e. and_last (is_text (first_value (codes "authorization") fields)) (is_text (first_value (codes "content-type") fields))
+    (is_text (first_value (codes "x-experience-api-version") fields)) (ap is_text (sym is) ∙ e)) why
 
 -- ---- counts
 

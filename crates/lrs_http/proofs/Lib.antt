@@ -4,3 +4,4 @@ pub mod ListLemmas
 pub mod NextLemmas
 pub mod ReachLemmas
 pub mod SendLemmas
+mod Taking

@@ -1,6 +1,6 @@
 -- What a call reads of a link and writes to it.
 use Rattle.std.specs.Prelude.{◌≡◌, ◌≤◌, ℕ, List, ◌++◌, Option, Some, option_map, IfSome, Result, Ok, Err, ⊤, Bool, true}
-use Rattle.std.specs.Prelude.{false}
+use Rattle.std.specs.Prelude.{false, length}
 use Rattle.lrs_disk.specs.Faults.{Rises}
 use Rattle.lrs_http.specs.declared.request.Request.{Request}
 use Rattle.lrs_http.specs.declared.request.RequestRefused.{RequestRefused}
@@ -10,6 +10,11 @@ use Rattle.lrs_http.specs.Stream.{IsItem}
 -- what is left of a connection's stream: what is kept of it, and what the link has left, if that is told
 abbrev pub stream_left : List ℕ → Option (List ℕ) → Option (List ℕ)
 stream_left kept left = option_map (λ bytes. kept ++ bytes) left
+
+-- at most so many bytes were taken off what a link has left, if it tells that
+abbrev pub TakesOff : ℕ → Option (List ℕ) → Option (List ℕ) → Type 0
+TakesOff most before after =
+    (rest : List ℕ) → after ≡ Some rest → (front : List ℕ) × (length front ≤ most) × (before ≡ Some (front ++ rest))
 
 -- why no request is given: running out of memory is free
 abbrev pub GivesRefusal : Option (List ℕ) → RequestRefused → Type 0

@@ -18,7 +18,7 @@ use lrs_media::trims_to;
 use std::alloc::Global;
 
 /// The most bytes that a body may have.
-const LONGEST_BODY: u64 = 4_194_304;
+pub const LONGEST_BODY: u64 = 4_194_304;
 
 /// The most digits of a Content-Length.
 const MOST_LENGTH_DIGITS: usize = 10;

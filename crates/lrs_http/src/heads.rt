@@ -14,7 +14,7 @@ use lrs_json::Memory;
 use std::alloc::Global;
 
 /// The most bytes that a head may have, the empty lines before it among them.
-pub(crate) const LONGEST_HEAD: usize = 16_384;
+pub const LONGEST_HEAD: usize = 16_384;
 
 /// The most fields that a head may have.
 pub(crate) const MOST_FIELDS: usize = 64;

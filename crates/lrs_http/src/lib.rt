@@ -8,6 +8,8 @@ mod reading;
 mod request;
 mod response;
 
+pub use fields::LONGEST_BODY;
+pub use heads::LONGEST_HEAD;
 pub use laws::law_of_one_list;
 pub use reading::{MOST_REQUESTS, read_request};
 pub use request::{Method, Request, RequestRefused};

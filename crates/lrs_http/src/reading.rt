@@ -1,11 +1,11 @@
 //! Requests are read from a link.
-ghost use Rattle.std.specs.Prelude.{◌≡◌, ◌+◌, ◌<◌, ◌≤◌, IfOk, IfErr, OnOk, OnErr, length, take, drop, vec_len, true, false};
+ghost use Rattle.std.specs.Prelude.{◌≡◌, ◌+◌, ◌<◌, ◌≤◌, ◌-◌, IfOk, IfErr, OnOk, OnErr, length, take, drop, vec_len, true, false};
 ghost use Rattle.lrs_disk.specs.Faults.{HasCause};
-ghost use Rattle.lrs_http.specs.Links.{stream_left, GivesNext, GivesRefusal, HasLinkCause};
+ghost use Rattle.lrs_http.specs.Links.{stream_left, GivesNext, GivesRefusal, HasLinkCause, TakesOff};
 ghost use Rattle.lrs_http.specs.Prospect.{IsHeadAt};
 ghost use Rattle.lrs_http.specs.Reading.{IsAtEnd, IsBodyAt, IsNoBody, IsEarlyEnd};
 
-use crate::fields::take_head;
+use crate::fields::{LONGEST_BODY, take_head};
 use crate::heads::{LONGEST_HEAD, MOST_FIELDS, judge, look, window_of};
 use crate::{Request, RequestRefused};
 use httparse::spans::{EMPTY_HEADER_SPAN, HeaderSpan, RequestSpans};
@@ -61,6 +61,8 @@ fn read_behind<L: Link>(link: &mut L, bytes: &mut [u8], held: usize) -> Result<u
     ensures ended { IfOk result (λ n. n ≡ 0 → held < length bytes.old → IsAtEnd (L.left link.new)) }
     ensures failed { OnErr result
         (stream_left (take held bytes.new) (L.left link.new) ≡ stream_left (take held bytes.old) (L.left link.old)) }
+    ensures off { IfOk result (λ n. TakesOff n (L.left link.old) (L.left link.new)) }
+    ensures off_err { OnErr result (TakesOff 0 (L.left link.old) (L.left link.new)) }
     ensures stream_kept { L.stream link.new ≡ L.stream link.old }
     ensures taken_kept { L.taken link.new ≡ L.taken link.old }
     ensures name_kept { L.name link.new ≡ L.name link.old }
@@ -77,6 +79,8 @@ fn read_piece<L: Link>(link: &mut L, kept: &mut Vec<u8>) -> Result<bool, Request
     ensures more { IfOk result (λ more. more ≡ true → vec_len kept.old < vec_len kept.new) }
     ensures end { IfOk result (λ more. more ≡ false → IsAtEnd (L.left link.new)) }
     ensures refused { IfErr result (GivesRefusal (stream_left kept.old.items (L.left link.old))) }
+    ensures grows { (vec_len kept.old ≤ vec_len kept.new) × (vec_len kept.new ≤ LONGEST_HEAD) }
+    ensures off { TakesOff (vec_len kept.new - vec_len kept.old) (L.left link.old) (L.left link.new) }
     ensures stream_kept { L.stream link.new ≡ L.stream link.old }
     ensures taken_kept { L.taken link.new ≡ L.taken link.old }
     ensures name_kept { L.name link.new ≡ L.name link.old }
@@ -107,6 +111,8 @@ fn read_head<L: Link>(
     ensures left { stream_left kept.new.items (L.left link.new) ≡ stream_left kept.old.items (L.left link.old) }
     ensures head { IfOk result (IsHeadAt kept.new.items fields.new) }
     ensures refused { IfErr result (GivesRefusal (stream_left kept.old.items (L.left link.old))) }
+    ensures few { vec_len kept.old ≤ LONGEST_HEAD → vec_len kept.new ≤ LONGEST_HEAD }
+    ensures off { TakesOff LONGEST_HEAD (L.left link.old) (L.left link.new) }
     ensures stream_kept { L.stream link.new ≡ L.stream link.old }
     ensures taken_kept { L.taken link.new ≡ L.taken link.old }
     ensures name_kept { L.name link.new ≡ L.name link.old }
@@ -132,6 +138,7 @@ fn fill<L: Link>(link: &mut L, body: &mut [u8], held: usize) -> Result<(), Reque
     ensures left { OnOk result (stream_left body.new (L.left link.new)
         ≡ stream_left (take held body.old) (L.left link.old)) }
     ensures refused { IfErr result (IsEarlyEnd (length body.old) (stream_left (take held body.old) (L.left link.old))) }
+    ensures off { TakesOff (length body.old) (L.left link.old) (L.left link.new) }
     ensures stream_kept { L.stream link.new ≡ L.stream link.old }
     ensures taken_kept { L.taken link.new ≡ L.taken link.old }
     ensures name_kept { L.name link.new ≡ L.name link.old }
@@ -150,7 +157,8 @@ fn fill<L: Link>(link: &mut L, body: &mut [u8], held: usize) -> Result<(), Reque
 
 fn remove_front(bytes: &mut Vec<u8>, number: usize)
     requires { number ≤ vec_len bytes.old }
-    ensures { bytes.new.items ≡ drop number bytes.old.items }
+    ensures rest { bytes.new.items ≡ drop number bytes.old.items }
+    ensures fewer { vec_len bytes.new ≤ vec_len bytes.old }
 {
     let len = bytes.len();
     bytes.as_mut_slice().copy_within(number..len, 0);
@@ -176,6 +184,7 @@ fn fill_vector<L: Link>(link: &mut L, body: &mut Vec<u8>, held: usize) -> Result
     ensures size { vec_len body.new ≡ vec_len body.old }
     ensures refused { IfErr result (IsEarlyEnd (vec_len body.old)
         (stream_left (take held body.old.items) (L.left link.old))) }
+    ensures off { TakesOff (vec_len body.old) (L.left link.old) (L.left link.new) }
     ensures stream_kept { L.stream link.new ≡ L.stream link.old }
     ensures taken_kept { L.taken link.new ≡ L.taken link.old }
     ensures name_kept { L.name link.new ≡ L.name link.old }
@@ -198,6 +207,8 @@ fn read_body<L: Link>(
         (IsBodyAt start size (stream_left kept.old.items (L.left link.old))
         (stream_left kept.new.items (L.left link.new))) }
     ensures refused { IfErr result (IsNoBody start size (stream_left kept.old.items (L.left link.old))) }
+    ensures fewer { vec_len kept.new ≤ vec_len kept.old }
+    ensures off { TakesOff size (L.left link.old) (L.left link.new) }
     ensures stream_kept { L.stream link.new ≡ L.stream link.old }
     ensures taken_kept { L.taken link.new ≡ L.taken link.old }
     ensures name_kept { L.name link.new ≡ L.name link.old }
@@ -219,6 +230,9 @@ pub fn read_request<L: Link>(
 ) -> Result<Request, RequestRefused>
     ensures next { GivesNext (stream_left kept.old.items (L.left link.old)) result
         (stream_left kept.new.items (L.left link.new)) }
+    // It keeps at most a head, and takes at most a head and a body off the link.
+    ensures ahead { vec_len kept.old ≤ LONGEST_HEAD → vec_len kept.new ≤ LONGEST_HEAD }
+    ensures bounded { TakesOff (LONGEST_HEAD + LONGEST_BODY) (L.left link.old) (L.left link.new) }
     ensures cause { HasLinkCause (L.fault_count link.old) (L.fault_count link.new) result }
     ensures stream_kept { L.stream link.new ≡ L.stream link.old }
     ensures taken_kept { L.taken link.new ≡ L.taken link.old }

@@ -1,5 +1,5 @@
 -- What callers see of a journal, and what it stands for.
-use Rattle.std.specs.Prelude.{◌≡◌, ◌⊎◌, ◌≤◌, ◌+◌, ℕ, List, [], ◌∷◌, ◌++◌, length, Option, Some, None, option_map, Bool}
+use Rattle.std.specs.Prelude.{◌≡◌, ◌⊎◌, ◌<◌, ◌≤◌, ◌+◌, ◌-◌, ◌^◌, ℕ, List, [], ◌∷◌, ◌++◌, length, Option, Some, None, option_map, Bool}
 use Rattle.std.specs.Prelude.{true, false, if◌then◌else◌}
 use Rattle.std.specs.Option.{ForSome}
 use Rattle.lrs_disk.specs.Disk.{written}
@@ -100,3 +100,11 @@ pub record IsUnchanged {D : Type 0} (told : D → Option (List ℕ)) (old new : 
 abbrev pub IsAppendFailed : {D : Type 0} → (D → Option (List ℕ)) → Journal D → Journal D → List ℕ → Type 0
 IsAppendFailed told old new payload = ((new.doubt ≡ true) × IsAppended told old new payload)
     ⊎ ((new.doubt ≡ false) × IsUnchanged told old new)
+
+-- How many calls of a disk were made between two of its moments. Each call moves it by one. At the last value of u64 it
+-- stands still, and tells nothing.
+abbrev pub MakesAtMost : ℕ → ℕ → ℕ → Type 0
+MakesAtMost calls before now = (now ≤ before + calls) ⊎ (2 ^ 64 - 1 ≤ now)
+
+abbrev pub MakesMore : ℕ → ℕ → ℕ → Type 0
+MakesMore calls before now = (before + calls < now) ⊎ (2 ^ 64 - 1 ≤ now)

@@ -3,7 +3,7 @@ ghost use Rattle.std.specs.Option.{ForSome};
 ghost use Rattle.lrs_disk.specs.Disk.{LeavesOnly};
 ghost use Rattle.lrs_disk.specs.Faults.{HasCause};
 ghost use Rattle.lrs_journal.specs.Store.{need_told, IsBeforeOrAfter, Stands};
-ghost use Rattle.lrs_journal.specs.Journal.{frames_of, need_of, StandsForFrames, IsJournal, IsAppended, IsAppendFailed, IsUnchanged, HasCount, Stores};
+ghost use Rattle.lrs_journal.specs.Journal.{frames_of, need_of, StandsForFrames, IsJournal, IsAppended, IsAppendFailed, IsUnchanged, HasCount, MakesAtMost, MakesMore, Stores};
 ghost use Rattle.lrs_journal.specs.declared.journal.AppendRefused.TheVariants as AppendRefused;
 
 use crate::sizes::FRAME_HEAD;
@@ -173,6 +173,7 @@ impl<D: Disk> Journal<D> {
         ensures frames { IsUnchanged D.told self.old self.new }
         ensures sound { IsJournal D.told D.image self.new }
         ensures later { D.time self.old.disk ≤ D.time self.new.disk }
+        ensures begun { self.old.doubt ≡ true → MakesMore 0 (D.time self.old.disk) (D.time self.new.disk) }
         ensures any_moment { ForSome (frames_of D.told self.old)
             (λ payloads. LeavesOnly D.time D.image_since self.old.disk self.new.disk
             (StandsForFrames self.old.limit self.old.doubt payloads)) }
@@ -202,6 +203,11 @@ impl<D: Disk> Journal<D> {
         ensures number { IfOk result (λ number. ForSome (frames_of D.told self.old)
             (λ payloads. number ≡ length payloads)) }
         ensures failed { IsErrOf result AppendRefused.Failed → IsAppendFailed D.told self.old self.new payload.now }
+        // After a failure it is in doubt exactly if the write of the gate was begun, the fifth of the six calls.
+        ensures begun { IsErrOf result AppendRefused.Failed → self.new.doubt ≡ true
+            → MakesMore 4 (D.time self.old.disk) (D.time self.new.disk) }
+        ensures not_begun { IsErrOf result AppendRefused.Failed → self.new.doubt ≡ false
+            → MakesAtMost 4 (D.time self.old.disk) (D.time self.new.disk) }
         ensures sound { IsJournal D.told D.image self.new }
         ensures later { D.time self.old.disk ≤ D.time self.new.disk }
         // A crash at any moment of the call leaves the frames from before it, with the new one or without.

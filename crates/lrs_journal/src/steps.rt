@@ -3,7 +3,7 @@ ghost use Rattle.std.specs.Prelude.{◌≡◌, ◌<◌, ◌≤◌, ◌+◌, ◌^
 ghost use Rattle.lrs_disk.specs.Disk.{written, LeavesOnly, Follows, Within};
 ghost use Rattle.lrs_disk.specs.Faults.{HasCause};
 ghost use Rattle.lrs_journal.specs.Store.{body, need_at};
-ghost use Rattle.lrs_journal.specs.Journal.{TellsAlike};
+ghost use Rattle.lrs_journal.specs.Journal.{MakesAtMost, MakesMore, TellsAlike};
 ghost use Rattle.lrs_journal.specs.Steps.{GivesBytes, KeepsUpTo, IsAtGate, IsCutBack, IsClosed};
 
 use crate::sizes::FRAME_HEAD;
@@ -17,6 +17,8 @@ pub(crate) fn stage<D: Disk>(disk: &mut D, offset: u64, payload: &[u8]) -> Resul
         ∷ [])) (GivesBytes D.told disk.old) (D.image disk.new)) }
     ensures tells { TellsAlike (D.told disk.old) (D.told disk.new) }
     ensures any_moment { LeavesOnly D.time D.image_since disk.old disk.new (KeepsUpTo (offset + 1) (D.image disk.old)) }
+    ensures few { MakesAtMost 4 (D.time disk.old) (D.time disk.new) }
+    ensures all { OnOk result (MakesMore 3 (D.time disk.old) (D.time disk.new)) }
     ensures cause { HasCause (D.fault_count disk.old) (D.fault_count disk.new) result }
 {
     let length = payload.len() as u32;
@@ -33,6 +35,7 @@ pub(crate) fn write_gate<D: Disk>(disk: &mut D, offset: u64, gate: u8) -> Result
         ∷ [])) (GivesBytes D.told disk.old) (D.image disk.new)) }
     ensures tells { TellsAlike (D.told disk.old) (D.told disk.new) }
     ensures any_moment { LeavesOnly D.time D.image_since disk.old disk.new (IsAtGate offset (D.image disk.old)) }
+    ensures begun { MakesMore 0 (D.time disk.old) (D.time disk.new) }
     ensures cause { HasCause (D.fault_count disk.old) (D.fault_count disk.new) result }
 {
     disk.write_at(offset, &[gate])?;

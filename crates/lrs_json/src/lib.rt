@@ -16,8 +16,7 @@ mod writing;
 
 pub use items::Items;
 pub use limits::DEPTH;
-pub use lrs_decimal;
-pub use lrs_decimal::Decimal;
+pub use lrs_decimal::{Decimal, is_whole};
 pub use matching::is_written;
 pub use memory::Memory;
 pub use number::Number;

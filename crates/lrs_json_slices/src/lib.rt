@@ -6,5 +6,5 @@ mod scanning;
 mod splitting;
 mod written;
 
-pub use lrs_json_reader;
+pub use lrs_json_reader::reread;
 pub use written::{Written, WrittenItems, WrittenMember, WrittenMembers, WrittenText};

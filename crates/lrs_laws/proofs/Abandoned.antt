@@ -62,7 +62,7 @@ changed_still change keeps sessions n k gone = by_there (slice_get sessions n) r
     by_there None found = gone
     by_there (Some s) found = set_still change keeps sessions n k s found gone
 
-each_still : (sessions : List HeldSession) (numbers : List ℕ) (k : ℕ) → is_abandoned_in sessions k ≡ true → is_abandoned_in (with_abandoned sessions numbers) k ≡ true
+pub each_still : (sessions : List HeldSession) (numbers : List ℕ) (k : ℕ) → is_abandoned_in sessions k ≡ true → is_abandoned_in (with_abandoned sessions numbers) k ≡ true
 each_still sessions [] k gone = gone
 each_still sessions (number ∷ numbers) k gone =
     each_still (with_changed as_abandoned sessions number) numbers k (changed_still as_abandoned (λ s is. refl) sessions number k gone)
@@ -76,11 +76,11 @@ longer_still [] more k gone = cc gone
 longer_still (x ∷ sessions) more zero gone = gone
 longer_still (x ∷ sessions) more (suc k) gone = longer_still sessions more k gone
 
-launched_still : (moment : ℕ) (sessions : List HeldSession) (b : Bool) (k : ℕ) → is_abandoned_in sessions k ≡ true → is_abandoned_in (with_launched moment sessions b) k ≡ true
+pub launched_still : (moment : ℕ) (sessions : List HeldSession) (b : Bool) (k : ℕ) → is_abandoned_in sessions k ≡ true → is_abandoned_in (with_launched moment sessions b) k ≡ true
 launched_still moment sessions false k gone = gone
 launched_still moment sessions true k gone = longer_still sessions (record { moment = moment; abandoned = false } ∷ []) k gone
 
-gone_after : (moment : ℕ) (sessions : List HeldSession) (change : SessionsChange) (k : ℕ) → is_abandoned_in sessions k ≡ true → is_abandoned_in (sessions_after moment sessions change) k ≡ true
+pub gone_after : (moment : ℕ) (sessions : List HeldSession) (change : SessionsChange) (k : ℕ) → is_abandoned_in sessions k ≡ true → is_abandoned_in (sessions_after moment sessions change) k ≡ true
 gone_after moment sessions change k gone =
     launched_still moment (with_fetched moment (with_abandoned sessions change.abandoned) change.fetched) change.launched k
     (fetched_still moment (with_abandoned sessions change.abandoned) change.fetched k (each_still sessions change.abandoned k gone))

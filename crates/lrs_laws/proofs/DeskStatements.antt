@@ -65,33 +65,33 @@ verb_said : (s : Saying) (actor : Agent) (activity publisher registration sessio
 unfolding verb_of
 verb_said s actor activity publisher registration session = refl
 
-has_verb : (verbs : List (List ℕ)) (s : Saying) (actor : Agent) (activity publisher registration session : List ℕ) → is_one_of verbs s.verb ≡ true
+pub has_verb : (verbs : List (List ℕ)) (s : Saying) (actor : Agent) (activity publisher registration session : List ℕ) → is_one_of verbs s.verb ≡ true
     → HasVerb verbs (saying_json s actor activity publisher registration session)
 has_verb verbs s actor activity publisher registration session is = ap (λ v. is_one_of verbs v) (verb_said s actor activity publisher registration session) ∙ is
 
-of_desk : (verbs : List (List ℕ)) (supply : Supply) (moment : ℕ) (js : List Json) → AllByRecursion (HasVerb verbs) js → AllByRecursion (IsOfDesk verbs) (made_under supply moment js)
+pub of_desk : (verbs : List (List ℕ)) (supply : Supply) (moment : ℕ) (js : List Json) → AllByRecursion (HasVerb verbs) js → AllByRecursion (IsOfDesk verbs) (made_under supply moment js)
 of_desk verbs supply moment [] each = tt
 of_desk verbs supply moment (j ∷ js) each =
     ((refl, ap (λ k. is_one_of verbs (verb_of k)) (seen_tree j) ∙ each.0), of_desk verbs (rest_of supply) moment js each.1)
 
-abandoned_each : (st : State) (numbers : List ℕ) → AllByRecursion (HasVerb deeds) (abandoned_jsons st numbers)
-abandoned_each st numbers = each_given (HasVerb deeds) (abandoned_at st) one numbers
+pub abandoned_each : (verbs : List (List ℕ)) → is_one_of verbs abandoned ≡ true → (st : State) (numbers : List ℕ) → AllByRecursion (HasVerb verbs) (abandoned_jsons st numbers)
+abandoned_each verbs among st numbers = each_given (HasVerb verbs) (abandoned_at st) one numbers
   where
-    one : (number : ℕ) → IfSome (abandoned_at st number) (HasVerb deeds)
+    one : (number : ℕ) → IfSome (abandoned_at st number) (HasVerb verbs)
     one number =
-        all_then (HasVerb deeds) (abandoned_of st) (slice_get st.launches number)
-        (λ (l : Launch). all_then (HasVerb deeds) (abandoned_from st l) (began_at l.session st.statements)
+        all_then (HasVerb verbs) (abandoned_of st) (slice_get st.launches number)
+        (λ (l : Launch). all_then (HasVerb verbs) (abandoned_from st l) (began_at l.session st.statements)
         (λ began. let ms : ℕ = lasted l.session st.statements began in
-        all_mapped (HasVerb deeds) (λ (t : Target). abandoned_json l t ms) (target st l.registration l.publisher)
-        (λ t. has_verb deeds (said_abandoned ms) t.registration.actor (activity_at t) t.publisher t.registration.id l.session refl)))
+        all_mapped (HasVerb verbs) (λ (t : Target). abandoned_json l t ms) (target st l.registration l.publisher)
+        (λ t. has_verb verbs (said_abandoned ms) t.registration.actor (activity_at t) t.publisher t.registration.id l.session among)))
 
-satisfied_each : (e : Enrolled) (session : List ℕ) (indices : List ℕ) → AllByRecursion (HasVerb own_verbs) (filter_map (satisfied_at e session) indices)
-satisfied_each e session indices = each_given (HasVerb own_verbs) (satisfied_at e session) one indices
+pub satisfied_each : (verbs : List (List ℕ)) → is_one_of verbs satisfied ≡ true → (e : Enrolled) (session : List ℕ) (indices : List ℕ) → AllByRecursion (HasVerb verbs) (filter_map (satisfied_at e session) indices)
+satisfied_each verbs among e session indices = each_given (HasVerb verbs) (satisfied_at e session) one indices
   where
-    one : (index : ℕ) → IfSome (satisfied_at e session index) (HasVerb own_verbs)
+    one : (index : ℕ) → IfSome (satisfied_at e session index) (HasVerb verbs)
     one index =
-        all_mapped (HasVerb own_verbs) (satisfied_json e session index) (node_at index e.course)
-        (λ node. has_verb own_verbs (said_satisfied node.kind) e.registration.actor (activity_of_node (enrolment_of e) index) node.id e.registration.id session refl)
+        all_mapped (HasVerb verbs) (satisfied_json e session index) (node_at index e.course)
+        (λ node. has_verb verbs (said_satisfied node.kind) e.registration.actor (activity_of_node (enrolment_of e) index) node.id e.registration.id session among)
 
 -- ---- what is owed
 
@@ -124,7 +124,7 @@ owed_of_desk st new owed owes = subst (AllByRecursion (IsOfDesk own_verbs)) (sym
   where
     by_whose : (o : Option Enrolled) → AllByRecursion (IsOfDesk own_verbs) (owed_made st owes.session owes.supply owes.moment new o)
     by_whose None = tt
-    by_whose (Some e) = of_desk own_verbs owes.supply owes.moment (owed_jsons st owes.session new e) (satisfied_each e owes.session (owed_behind st new e))
+    by_whose (Some e) = of_desk own_verbs owes.supply owes.moment (owed_jsons st owes.session new e) (satisfied_each own_verbs refl e owes.session (owed_behind st new e))
 
 -- ---- what an entry brings that is no statement of its caller
 
@@ -183,19 +183,19 @@ tells_waiver st at why registration unit ids = of_waiver (TellsDeeds st) st at (
 pub tells_ending : (st : State) (at : Occasion) (o : Option ℕ) → TellsDeeds st (abandoning_one st at o)
 tells_ending st at o =
     of_ending (TellsDeeds st) st at (tells_nothing st at.moment) o
-    (λ numbers. tells_deeds st (abandoning_each st at numbers) (of_desk deeds at.supply at.moment (abandoned_jsons st numbers) (abandoned_each st numbers)))
+    (λ numbers. tells_deeds st (abandoning_each st at numbers) (of_desk deeds at.supply at.moment (abandoned_jsons st numbers) (abandoned_each deeds refl st numbers)))
 
 pub tells_sweep : (st : State) (at : Occasion) (idle : ℕ) → TellsDeeds st (sweeping st at idle)
 tells_sweep st at idle =
     let numbers : List ℕ = idle_ones st idle at.moment in
-    tells_deeds st (sweeping st at idle) (of_desk deeds at.supply at.moment (abandoned_jsons st numbers) (abandoned_each st numbers))
+    tells_deeds st (sweeping st at idle) (of_desk deeds at.supply at.moment (abandoned_jsons st numbers) (abandoned_each deeds refl st numbers))
 
-launched_of_desk : (t : Target) (mode : Mode) (session id : List ℕ) (moment : ℕ) → AllByRecursion (IsOfDesk deeds) (launched_at t mode session id moment)
-launched_of_desk t mode session id moment = (
+pub launched_of_desk : (verbs : List (List ℕ)) → is_one_of verbs launched ≡ true → (t : Target) (mode : Mode) (session id : List ℕ) (moment : ℕ) → AllByRecursion (IsOfDesk verbs) (launched_at t mode session id moment)
+launched_of_desk verbs among t mode session id moment = (
   (
     refl,
-    ap (λ k. is_one_of deeds (verb_of k)) (seen_tree (launched_json mode t.unit t.registration.actor (activity_at t) t.publisher t.registration.id session))
-        ∙ has_verb deeds (said_launched mode t.unit) t.registration.actor (activity_at t) t.publisher t.registration.id session refl,
+    ap (λ k. is_one_of verbs (verb_of k)) (seen_tree (launched_json mode t.unit t.registration.actor (activity_at t) t.publisher t.registration.id session))
+        ∙ has_verb verbs (said_launched mode t.unit) t.registration.actor (activity_at t) t.publisher t.registration.id session among,
   ),
   tt,
 )
@@ -209,7 +209,7 @@ tells_launch st at mode return_url o = of_launch (TellsDeeds st) st at (tells_no
         let id : List ℕ = left_behind (rest_of at.supply) said 0 in
         tells_deeds st (launched_by st at mode return_url t)
         (each_append (IsOfDesk deeds) (made_under (rest_of at.supply) at.moment said) (launched_at t mode (at.supply 0) id at.moment)
-        (of_desk deeds (rest_of at.supply) at.moment said (abandoned_each st (open_of st t.registration.id (activity_at t)))) (launched_of_desk t mode (at.supply 0) id at.moment))
+        (of_desk deeds (rest_of at.supply) at.moment said (abandoned_each deeds refl st (open_of st t.registration.id (activity_at t)))) (launched_of_desk deeds refl t mode (at.supply 0) id at.moment))
 
 pub tells_fetch : (st : State) (at : Occasion) (o : Option HeldKey) → TellsDeeds st (fetching st at o)
 tells_fetch st at o =

@@ -40,7 +40,7 @@ there (Some a) is = (a, refl)
 
 -- ---- under another id
 
-different : (a b : List ℕ) → a ≢ b → bytes_eq a b ≡ false
+pub different : (a b : List ℕ) → a ≢ b → bytes_eq a b ≡ false
 different a b other = by_test (bytes_eq a b) refl
   where
     by_test : (c : Bool) → bytes_eq a b ≡ c → c ≡ false
@@ -48,7 +48,7 @@ different a b other = by_test (bytes_eq a b) refl
     by_test false is = refl
 
 -- where nothing is held under an id, nothing is when others come
-unheld_each : (id : List ℕ) (held xs : List StoredStatement) → AllByRecursion (λ (x : StoredStatement). bytes_eq x.id id ≡ false) xs → is_held id held ≡ false → is_held id (add_each held xs) ≡ false
+pub unheld_each : (id : List ℕ) (held xs : List StoredStatement) → AllByRecursion (λ (x : StoredStatement). bytes_eq x.id id ≡ false) xs → is_held id held ≡ false → is_held id (add_each held xs) ≡ false
 unheld_each id held [] others none = none
 unheld_each id held (x ∷ xs) others none = unheld_each id (add held x) xs others.1 (by_held (is_held x.id held) refl)
   where

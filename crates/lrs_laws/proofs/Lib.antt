@@ -33,3 +33,12 @@ pub mod CourseSizes
 pub mod OwedOnce
 pub mod Satisfied
 pub mod Abandoned
+pub mod ClosedStill
+pub mod OneOpen
+pub mod FreshIds
+pub mod Progress
+pub mod OwedTold
+pub mod EnrolledStill
+pub mod Told
+pub mod ToldNext
+pub mod SatisfiedTold

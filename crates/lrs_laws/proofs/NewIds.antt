@@ -42,7 +42,7 @@ differs ids x q new used = by_test (bytes_eq x q) refl
     by_test true is = absurd (false≢true (sym new ∙ (ap (λ i. is_one_of ids i) (same_text x q (sym is)) ∙ used)))
     by_test false is = refl
 
-here : (x : List ℕ) (ids : List (List ℕ)) → is_one_of (x ∷ ids) x ≡ true
+pub here : (x : List ℕ) (ids : List (List ℕ)) → is_one_of (x ∷ ids) x ≡ true
 here x ids = ap (λ b. b || is_one_of ids x) (nat_list_eq_equiv.refl x)
 
 -- what is among the ids and isn't given by one of them is none of theirs
@@ -69,7 +69,7 @@ elsewhere used counted ids most word (t ∷ ts) q fits there new =
         ∙ more ids most word fit there (right_false (bytes_eq own q) (is_one_of (given_ids ts) q) none)
 
 -- the ids that they give themselves are among these
-abbrev Given : List (List ℕ) → List (List ℕ) → Type 0
+abbrev pub Given : List (List ℕ) → List (List ℕ) → Type 0
 Given ids given = (g : List ℕ) → is_one_of given g ≡ true → is_one_of ids g ≡ true
 
 distinct_ids : (used : Used) → IsCounted used → (ids : List (List ℕ)) (most word : ℕ) (ts : List Tree) → Suffices used ids most (missing ts)
@@ -142,7 +142,7 @@ distinct_given ts formed = by_size (is_too_large ts) formed
 -- ---- the law
 
 -- the used ids are counted
-counted : (st : State) → IsCounted (used_in st)
+pub counted : (st : State) → IsCounted (used_in st)
 counted st =
     let statements : List (List ℕ) = ids_of st.statements in
     let registrations : List (List ℕ) = registration_ids st.registrations in
@@ -186,7 +186,7 @@ made_ids_are_new h trees draw small formed = (batch_distinct (state h) draw.name
 -- ---- ids of the desk
 
 -- the id of that number isn't used, and is none of these
-nth_free : (used : Used) → IsCounted used → (ids : List (List ℕ)) (most word k : ℕ) → Suffices used ids most (suc k)
+pub nth_free : (used : Used) → IsCounted used → (ids : List (List ℕ)) (most word k : ℕ) → Suffices used ids most (suc k)
     → (used.is_used (made_id used ids most word k) ≡ false) × (is_one_of ids (made_id used ids most word k) ≡ false)
 nth_free used counted ids most word zero fits = made_free used counted ids most word 0 fits
 nth_free used counted ids most word (suc k) fits =
@@ -196,7 +196,7 @@ nth_free used counted ids most word (suc k) fits =
     (later.0, right_false (bytes_eq id (made_id used (id ∷ ids) (most + 1) next k)) (is_one_of ids (made_id used (id ∷ ids) (most + 1) next k)) later.1)
 
 -- nor is it that of an earlier one
-nth_other : (used : Used) → IsCounted used → (ids : List (List ℕ)) (most word j k : ℕ) → j < k → Suffices used ids most (suc k) → made_id used ids most word j ≢ made_id used ids most word k
+pub nth_other : (used : Used) → IsCounted used → (ids : List (List ℕ)) (most word j k : ℕ) → j < k → Suffices used ids most (suc k) → made_id used ids most word j ≢ made_id used ids most word k
 nth_other used counted ids most word j zero less fits = absurd (omega (arith, less))
 nth_other used counted ids most word zero (suc k) less fits =
     let id : List ℕ = id_of_word (free_word used ids most word) in

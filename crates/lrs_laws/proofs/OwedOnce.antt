@@ -55,7 +55,7 @@ none_left nodes zero = refl
 none_left nodes (suc d) = none_left nodes d
 
 -- by their depth there are no more than before
-no_more : (nodes : List Node) (q : ℕ → Bool) (ps : List ℕ) (d : ℕ) → many q (from_depth nodes ps d) ≤ many q ps
+pub no_more : (nodes : List Node) (q : ℕ → Bool) (ps : List ℕ) (d : ℕ) → many q (from_depth nodes ps d) ≤ many q ps
 no_more nodes q [] d =
     let same : many q (from_depth nodes [] d) ≡ 0 = ap (λ ds. many q ds) (none_left nodes d) in
     let none : many q (from_depth nodes [] d) ≤ 0 = omega (arith, same) in

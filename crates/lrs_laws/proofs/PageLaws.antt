@@ -231,7 +231,7 @@ pub founding_on : (st : State) (more : List Entry) (founding : Founding) → st.
 founding_on st [] founding is = is
 founding_on st (e ∷ more) founding is = founding_on (step st e) more founding (ap (λ o. founding_after o (effect st e).founding) is)
 
-founded : (e : Entry) → IsFounding e → (founding : Founding) × ((step nothing e).founding ≡ Some founding) × (is_token founding.admin ≡ true)
+pub founded : (e : Entry) → IsFounding e → (founding : Founding) × ((step nothing e).founding ≡ Some founding) × (is_token founding.admin ≡ true)
 founded e is = by_write e.write (second_so (is_operator e.caller && is_zero e.draw) (founds e.write) is)
   where
     by_write : (w : Write) → founds w ≡ true → (founding : Founding) × ((step nothing (record e { write = w })).founding ≡ Some founding) × (is_token founding.admin ≡ true)

@@ -51,7 +51,7 @@ use Rattle.xapi_values.specs.Kinds.{kind_of}
 
 -- ---- what says so
 
-abbrev says_so : List ℕ → List ℕ → StoredStatement → Bool
+abbrev pub says_so : List ℕ → List ℕ → StoredStatement → Bool
 says_so registration activity s = counts registration activity satisfied (view s.received)
 
 abbrev AtMostOnce : List ℕ → List ℕ → List StoredStatement → Type 0
@@ -116,11 +116,11 @@ kept_by_deeds registration activity held ss each once =
 
 -- ---- what it says of nodes
 
-registration_said : (s : Saying) (actor : Agent) (activity publisher registration session : List ℕ) → registration_of (saying_json s actor activity publisher registration session) ≡ id_of (id_text registration)
+pub registration_said : (s : Saying) (actor : Agent) (activity publisher registration session : List ℕ) → registration_of (saying_json s actor activity publisher registration session) ≡ id_of (id_text registration)
 unfolding registration_of
 registration_said s actor activity publisher registration session = refl
 
-activity_said : (s : Saying) (actor : Agent) (activity publisher registration session : List ℕ) → activity_of (saying_json s actor activity publisher registration session) ≡ Some activity
+pub activity_said : (s : Saying) (actor : Agent) (activity publisher registration session : List ℕ) → activity_of (saying_json s actor activity publisher registration session) ≡ Some activity
 unfolding activity_of kind_of
 activity_said s actor activity publisher registration session = refl
 

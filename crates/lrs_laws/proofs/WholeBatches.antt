@@ -113,7 +113,7 @@ is_behind_it limit offset h x t xs owed new =
 abbrev IsKnown : State → Who → Type 0
 IsKnown st by = (authority : Authority) × (authority_of st by ≡ Some authority)
 
-there : {A : Type 0} (p : A → Bool) (xs : List A) (k : ℕ) → position p xs ≡ Some k → (x : A) × (slice_get xs k ≡ Some x)
+pub there : {A : Type 0} (p : A → Bool) (xs : List A) (k : ℕ) → position p xs ≡ Some k → (x : A) × (slice_get xs k ≡ Some x)
 there p [] k is = cc is
 there p (x ∷ xs) k is = (get_or (x ∷ xs) k x, slice_get-get_or (x ∷ xs) k x (position-Some p (x ∷ xs) k x is).0)
 
@@ -141,11 +141,11 @@ callers_have_authority h caller let_in = known (state h) caller (all_launched h)
 
 -- ---- each of them, in one list
 
-each_both : {A : Type 0} (P Q R : A → Type 0) → ((x : A) → P x → Q x → R x) → (xs : List A) → AllByRecursion P xs → AllByRecursion Q xs → AllByRecursion R xs
+pub each_both : {A : Type 0} (P Q R : A → Type 0) → ((x : A) → P x → Q x → R x) → (xs : List A) → AllByRecursion P xs → AllByRecursion Q xs → AllByRecursion R xs
 each_both P Q R join [] p q = tt
 each_both P Q R join (x ∷ xs) p q = (join x p.0 q.0, each_both P Q R join xs p.1 q.1)
 
-others : (id : List ℕ) (ns : List WithId) → is_one_of (ids_under ns) id ≡ false → AllByRecursion (λ (n : WithId). bytes_eq n.id id ≡ false) ns
+pub others : (id : List ℕ) (ns : List WithId) → is_one_of (ids_under ns) id ≡ false → AllByRecursion (λ (n : WithId). bytes_eq n.id id ≡ false) ns
 others id [] none = tt
 others id (n ∷ ns) none =
     (left_false (bytes_eq n.id id) (is_one_of (ids_under ns) id) none, others id ns (right_false (bytes_eq n.id id) (is_one_of (ids_under ns) id) none))

@@ -1,5 +1,5 @@
 -- What follows from the definitions over every history of sessions: a token opens what the session of its launch may
--- see and nothing else, and no token is known that no fetch gave away.
+-- see and nothing else, no token is known that no fetch gave away, and of a unit one session is open at most.
 use Rattle.std.specs.Prelude.{◌≡◌, ◌+◌, ◌<◌, ◌^◌, ℕ, false, true, List, [], ◌∷◌, ◌++◌, length, Option, Some, None}
 use Rattle.std.specs.Prelude.{slice_get}
 use Rattle.std.specs.Str.{bytes_eq}
@@ -16,7 +16,7 @@ use Rattle.lrs_history.specs.Occasions.{supply_in}
 use Rattle.lrs_history.specs.Endings.{abandoned_jsons, open_of}
 use Rattle.lrs_history.specs.History.{answer, only, refused, state, IsLegal}
 use Rattle.lrs_history.specs.Launches.{Target, activity_at, launched_at, target}
-use Rattle.lrs_history.specs.Sessions.{is_its_own}
+use Rattle.lrs_history.specs.Sessions.{is_closed, is_its_own}
 use Rattle.lrs_json.specs.Json.{Json}
 use Rattle.lrs_laws.specs.Laws.{IsAccepted, sight_in, who_in}
 use Rattle.lrs_names.specs.declared.draw.Draw.{Draw}
@@ -174,3 +174,21 @@ SessionsKeepLaunchData =
     (chosen : Option (List ℕ)) → ActsInSession h caller launch → state_changed c ≡ Some chosen
     → IsAccepted (answer limit h caller c clock draw)
     → (state : List ℕ) × (chosen ≡ Some state) × (bytes_eq state launch_data_state ≡ false)
+
+-- ---- which are open
+
+-- the session of the launch of that number is open, and the launch is of that unit in that registration
+pub record IsOpenOf (st : State) (registration activity : List ℕ) (number : ℕ) : Type 0 where
+  pub launch : Launch
+  pub launched : slice_get st.launches number ≡ Some launch
+  pub registered : launch.registration ≡ registration
+  pub about : launch.activity ≡ activity
+  pub unclosed : is_closed st number ≡ false
+
+-- In a registration at most one session of a unit is open: any two are the same. The store knows the unit under that
+-- id.
+abbrev pub OneSessionIsOpen : Type 0
+OneSessionIsOpen =
+    (h : List Entry) (registration activity : List ℕ) (first second : ℕ)
+    → IsOpenOf (state h) registration activity first → IsOpenOf (state h) registration activity second
+    → first ≡ second

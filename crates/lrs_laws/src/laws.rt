@@ -1,9 +1,9 @@
 ghost use Rattle.lrs_laws.specs.Documents.{DocumentsAreFolds, HeldDocumentsAreShown, IdsTellDocuments, MergedIsRead, NothingIsDroppedQuietly, PostedDocumentsAreMerged, UnmergeableIsTold};
 ghost use Rattle.lrs_laws.specs.Fetches.{FetchesGive, KeysGiveOnce, UsedKeysAreTold};
 ghost use Rattle.lrs_laws.specs.Laws.{BatchConflictsAreTold, BatchesAreWhole, CallersHaveAuthority, CallersStayLetIn, ConflictsAreTold, CoursesNameOne, DeskIdsAreNew, FirstPagesAreTold, LinksGoOn, LinksStay, LinksWhereMoreComes, MadeIdsAreNew, NamesForGood, NamesOne, PagesEnd, PagesGiveTheList, PositionsComeOnce, PutsAreHeld, RepeatedBatchesAreTaken, RepeatsAreTaken, StaysVoided, StrangersAreToldAlike};
-ghost use Rattle.lrs_laws.specs.Sessions.{GivenTokensAct, KeysAreTheirLaunches, LaunchesLeaveStatements, OtherTokensAreUnknown, SessionTokensWereGiven, SessionsAreBarredFromTheDesk, SessionsAreLaunched, SessionsKeepLaunchData, SessionsKeepToTheirDocuments, SessionsSeeTheirRegistration};
+ghost use Rattle.lrs_laws.specs.Sessions.{GivenTokensAct, KeysAreTheirLaunches, LaunchesLeaveStatements, OneSessionIsOpen, OtherTokensAreUnknown, SessionTokensWereGiven, SessionsAreBarredFromTheDesk, SessionsAreLaunched, SessionsKeepLaunchData, SessionsKeepToTheirDocuments, SessionsSeeTheirRegistration};
 ghost use Rattle.lrs_laws.specs.Speaking.{AbandonedSessionsAreSilent, ResultsCountOnce, SessionsSpeakInOrder};
-ghost use Rattle.lrs_laws.specs.Verdicts.{SatisfiedOnce};
+ghost use Rattle.lrs_laws.specs.Verdicts.{SatisfiedAreTold, SatisfiedOnce};
 
 /// Over every history whoever is let in has an authority, and stays let in after every further entry. Who isn't let in
 /// is told the same whatever it asks. An id names one statement, for good, no two courses have one, and what is voided
@@ -65,9 +65,10 @@ pub fn law_of_fetches()
 /// away acts, for good, in the session of the launch whose entry gave the key away; one that is neither an admin's nor
 /// a provider's, and that no fetch gave away, is nobody's. A launch leaves its statement. A session sees the statements
 /// of its launch's registration and no others, is let in at no command of the desk, and has no documents but those of
-/// its launch's actor, in its launch's registration or in none; of these it never changes what its launch wrote. Over
-/// every legal history it speaks in order, from initialized on to terminated, and says nothing behind its abandonment;
-/// and in a registration a unit is completed once and passed once, unless the earlier statement was voided.
+/// its launch's actor, in its launch's registration or in none; of these it never changes what its launch wrote. In a
+/// registration at most one session of a unit is open. Over every legal history a session speaks in order, from
+/// initialized on to terminated, and says nothing behind its abandonment; and in a registration a unit is completed
+/// once and passed once, unless the earlier statement was voided.
 pub fn law_of_sessions()
     ensures launched { SessionsAreLaunched }
     ensures given { SessionTokensWereGiven }
@@ -79,13 +80,15 @@ pub fn law_of_sessions()
     ensures desk { SessionsAreBarredFromTheDesk }
     ensures documents { SessionsKeepToTheirDocuments }
     ensures launch_data { SessionsKeepLaunchData }
+    ensures one { OneSessionIsOpen }
     ensures order { SessionsSpeakInOrder }
     ensures silent { AbandonedSessionsAreSilent }
     ensures results { ResultsCountOnce }
 {}
 
 /// Over every legal history of a registration and a node at most one statement says that it is satisfied, whether one
-/// is voided or not.
+/// is voided or not. Of a block or a course that is satisfied one does, unless half of all ids are in use.
 pub fn law_of_verdicts()
-    ensures { SatisfiedOnce }
+    ensures once { SatisfiedOnce }
+    ensures told { SatisfiedAreTold }
 {}

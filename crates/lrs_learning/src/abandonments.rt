@@ -12,10 +12,9 @@ ghost use Rattle.lrs_sessions.specs.LrsStateState.{no_change};
 use crate::ids::supply_of;
 use lrs_json::{Items, Memory};
 use lrs_names::{Draw, Id};
+use lrs_parts::{Acceptance, Effect, Parts, SessionsChange};
 use lrs_record::Moment;
-use lrs_sessions::lrs_made::make_under;
-use lrs_sessions::lrs_parts::{Acceptance, Effect, Parts, SessionsChange};
-use lrs_sessions::{abandoned_statements, idle_ones, is_open, sessions_at};
+use lrs_sessions::{abandoned_statements, idle_ones, is_open, make_under, sessions_at};
 use std::alloc::Global;
 use xapi_statement::StoredStatement;
 

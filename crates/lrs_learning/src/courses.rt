@@ -10,8 +10,8 @@ ghost use Rattle.lrs_sessions.specs.LrsPartsParts.{state_of};
 
 use cmi5_course::{Course, CourseRefused};
 use lrs_json::{Memory, Text, Tree};
+use lrs_parts::{Acceptance, CoursesChange, Effect, Parts, course_id};
 use lrs_record::Moment;
-use lrs_sessions::lrs_parts::{Acceptance, CoursesChange, Effect, Parts, course_id};
 use std::alloc::Global;
 
 /// Takes a course up.

@@ -17,12 +17,12 @@ use lrs_agents::Agent;
 use lrs_ids::IdSupply;
 use lrs_json::{Items, Memory};
 use lrs_names::{Draw, Id, Iri};
-use lrs_record::Moment;
-use lrs_sessions::lrs_made::{add_owed, enrolled_as};
-use lrs_sessions::lrs_parts::{
+use lrs_parts::{
     Acceptance, Effect, HeldRegistration, Learner, MadeSession, MadeSessionsChange, Parts,
     RegistrationsChange, index_of_course,
 };
+use lrs_record::Moment;
+use lrs_sessions::{add_owed, enrolled_as};
 use std::alloc::Global;
 use xapi_statement::StoredStatement;
 

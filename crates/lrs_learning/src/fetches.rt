@@ -8,10 +8,10 @@ ghost use Rattle.lrs_sessions.specs.LrsPartsParts.{state_of};
 
 use lrs_json::{Memory, Text};
 use lrs_names::Draw;
+use lrs_parts::{Acceptance, Effect, HeldKey, HeldToken, Parts, TokensChange};
 use lrs_record::Moment;
 use lrs_replies::token_text;
 use lrs_sessions::is_closed;
-use lrs_sessions::lrs_parts::{Acceptance, Effect, HeldKey, HeldToken, Parts, TokensChange};
 use std::alloc::Global;
 
 /// Gives the token of a key's session away, unless it was given or the session is closed.

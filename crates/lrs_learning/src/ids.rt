@@ -9,7 +9,7 @@ ghost use Rattle.lrs_sessions.specs.LrsStateState.{used_in};
 use lrs_ids::IdSupply;
 use lrs_json::Memory;
 use lrs_names::{Draw, Id};
-use lrs_sessions::lrs_parts::Parts;
+use lrs_parts::Parts;
 use std::alloc::Global;
 
 /// All of them.

@@ -18,18 +18,18 @@ ghost use Rattle.xapi_docs.specs.declared.changes.DocumentsChange.TheVariants.{W
 
 use crate::ids::supply_of;
 use cmi5_course::{Launch, Mode};
+use cmi5_launch::names::LAUNCH_DATA;
+use cmi5_launch::{Made, launch_address, launch_data};
 use lrs_ids::IdSupply;
 use lrs_json::{Items, Memory, Number, Text};
 use lrs_names::{Draw, Id, Iri};
+use lrs_parts::{Acceptance, Effect, HeldKey, KeysChange, LaunchesChange, Parts, SessionsChange};
 use lrs_record::Moment;
 use lrs_replies::token_text;
-use lrs_sessions::cmi5_launch::names::LAUNCH_DATA;
-use lrs_sessions::cmi5_launch::{Made, launch_address, launch_data};
-use lrs_sessions::lrs_made::{LentTarget, make_one, make_under, statement_of, target};
-use lrs_sessions::lrs_parts::{
-    Acceptance, Effect, HeldKey, KeysChange, LaunchesChange, Parts, SessionsChange,
+use lrs_sessions::{
+    LentTarget, abandoned_statements, launch_count, make_one, make_under, open_of, statement_of,
+    target,
 };
-use lrs_sessions::{abandoned_statements, launch_count, open_of};
 use std::alloc::Global;
 use xapi_docs::{Document, DocumentsChange};
 use xapi_keys::StateKey;

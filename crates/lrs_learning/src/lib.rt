@@ -18,5 +18,8 @@ pub use courses::taking;
 pub use enrolments::enrolling;
 pub use fetches::fetching;
 pub use launches::launching;
-pub use lrs_sessions::lrs_parts;
+pub use lrs_parts::{
+    Acceptance, Effect, Founding, HeldProvider, Parts, ProvidersChange, SpentEffect, is_base,
+    is_token,
+};
 pub use waivers::waiving;

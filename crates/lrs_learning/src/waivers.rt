@@ -18,11 +18,11 @@ use cmi5_course::Reason;
 use lrs_ids::IdSupply;
 use lrs_json::{Items, Memory};
 use lrs_names::{Draw, Id, Iri};
+use lrs_parts::{Effect, MadeSession, MadeSessionsChange, Parts};
 use lrs_record::Moment;
-use lrs_sessions::lrs_made::{
+use lrs_sessions::{
     LentTarget, add_owed, enrolled_as, is_waived, make_one, target, waived_statement,
 };
-use lrs_sessions::lrs_parts::{Effect, MadeSession, MadeSessionsChange, Parts};
 use std::alloc::Global;
 use xapi_statement::{Statement, StoredStatement};
 

@@ -11,8 +11,7 @@ ghost use Rattle.lrs_record.specs.Entries.{IsLawfulCaller};
 
 use crate::keeping::keep;
 use lrs_disk::Disk;
-use lrs_fold::lrs_refusals::Submission;
-use lrs_fold::{Fold, Outcome, Spent};
+use lrs_fold::{Fold, Outcome, Spent, Submission};
 use lrs_journal::Journal;
 use lrs_names::Draw;
 use lrs_record::{Caller, Entry};
@@ -60,7 +59,7 @@ pub(crate) fn act<D: Disk>(
         }
         Err(_) => {
             drop(caller);
-            drop(command);
+            command.discard();
             Done {
                 said: Err(Trouble::Disk),
                 made: None,

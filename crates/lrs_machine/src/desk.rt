@@ -26,9 +26,7 @@ use crate::acting::{Done, act};
 use crate::{Receipt, Record, Spent};
 use lrs_command::Area;
 use lrs_disk::{Disk, Failed};
-use lrs_fold::lrs_history::barred;
-use lrs_fold::lrs_refusals::{Submission, who_is};
-use lrs_fold::{Fold, post_of, put_of};
+use lrs_fold::{Fold, Submission, barred, post_of, put_of, who_is};
 use lrs_journal::Journal;
 use lrs_json::{Items, Tree};
 use lrs_names::{Draw, Id};
@@ -179,7 +177,7 @@ impl<D: Disk> Desk<D> {
         ensures durable { IsOnDisk D.told D.image D.time D.image_since self.new }
     {
         // Nobody took out what an earlier act left over.
-        drop(mem::replace(&mut self.spent, Spent::none(self.alloc)));
+        mem::replace(&mut self.spent, Spent::none(self.alloc)).discard();
         let Done { said, made, landed } = act(
             self.alloc,
             &mut self.journal,
@@ -373,8 +371,8 @@ impl<D: Disk> Desk<D> {
             opening: _,
             acts: _,
         } = self;
-        drop(spent);
-        drop(fold);
+        spent.discard();
+        fold.discard();
         match journal.settle() {
             Ok(_) => Ok(journal.into_disk()),
             Err(failed) => Err((failed, journal.into_disk())),

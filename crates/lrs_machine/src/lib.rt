@@ -14,8 +14,7 @@ mod record;
 mod replaying;
 
 pub use desk::Desk;
-pub use lrs_fold::Spent;
-pub use lrs_fold::lrs_refusals::Submission;
+pub use lrs_fold::{Spent, Submission};
 pub use lrs_parts::{HeldProvider, is_base, is_token};
 pub use lrs_replies::{Answered, Body, Media, Refusal, Reply, Trouble};
 pub use opening::{DeskRefused, FoundRefused};

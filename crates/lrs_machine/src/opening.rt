@@ -120,14 +120,14 @@ impl<D: Disk> Desk<D> {
         let (frame, opening) = match begun(alloc, &mut fold, admin, base, clock) {
             Ok(begun) => begun,
             Err(_) => {
-                drop(fold);
+                fold.discard();
                 return Err((FoundRefused::Memory, disk));
             }
         };
         match Journal::create(disk, limit, &frame) {
             Ok(journal) => Ok(opened(alloc, journal, fold, opening)),
             Err((refused, disk)) => {
-                drop(fold);
+                fold.discard();
                 Err((founding_refusal(refused), disk))
             }
         }
@@ -172,7 +172,7 @@ impl<D: Disk> Desk<D> {
         match replay_all(alloc, &mut replay, &mut fold, &mut opening) {
             Ok(()) => finish(alloc, replay, fold, opening),
             Err(refused) => {
-                drop(fold);
+                fold.discard();
                 Err((refused, replay.into_disk()))
             }
         }
@@ -216,7 +216,7 @@ fn finish<D: Disk>(
     match replay.finish() {
         Ok(journal) => Ok(opened(alloc, journal, fold, opening)),
         Err((_, disk)) => {
-            drop(fold);
+            fold.discard();
             Err((DeskRefused::Failed, disk))
         }
     }
@@ -311,7 +311,7 @@ fn founding(
     match founding_text(alloc, &entry) {
         Ok(frame) => Ok((entry, frame)),
         Err(refused) => {
-            drop(entry);
+            entry.discard();
             Err(refused)
         }
     }

@@ -72,11 +72,11 @@ pub(crate) fn take_in(fold: &mut Fold, effect: Effect) -> Result<(), Memory>
     let mut texts = Vec::new(effect.statements.allocator()).into_iter();
     match fold.ready(&mut texts, &effect) {
         Ok(()) => {
-            drop(fold.install(effect));
+            fold.install(effect).discard();
             Ok(())
         }
         Err(refused) => {
-            drop(effect);
+            effect.discard();
             Err(refused)
         }
     }

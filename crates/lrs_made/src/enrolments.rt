@@ -10,8 +10,7 @@ use crate::held::{course_of, founding_of, registration_under};
 use cmi5_course::Course;
 use lrs_json::Memory;
 use lrs_names::{Id, Iri};
-use lrs_parts::cmi5_verdict::Enrolment;
-use lrs_parts::{HeldRegistration, Parts};
+use lrs_parts::{Enrolment, HeldRegistration, Parts};
 use std::alloc::Global;
 
 /// A registration, its course, and the address that the store's own names begin with: all lent by the parts.

@@ -13,11 +13,13 @@ mod saying;
 mod targets;
 mod waivers;
 
+pub use cmi5_launch::Made;
 pub use enrolments::{LentEnrolled, enrolled, enrolled_as, verdicts_of};
-pub use lrs_history;
-pub use lrs_history::{cmi5_launch, cmi5_session, xapi_pages};
-pub use lrs_parts;
-pub use lrs_parts::cmi5_verdict;
+pub use lrs_history::{
+    MOST_OF_BATCH, barred, outside, overstepped, refused_actor, refused_agent, refused_document,
+    refused_idle, refused_name, refused_with,
+};
+pub use lrs_parts::{Parts, course_id, index_of_course, is_admin, push_if};
 pub use making::{make_one, make_under};
 pub use owing::add_owed;
 pub use saying::statement_of;

@@ -14,7 +14,7 @@ use crate::enrolments::LentEnrolled;
 use crate::making::make_under;
 use crate::saying::statement_of;
 use cmi5_course::Node;
-use lrs_history::cmi5_launch::{Made, activity_id};
+use cmi5_launch::{Made, activity_id};
 use lrs_ids::IdSupply;
 use lrs_json::Memory;
 use lrs_names::Id;

@@ -3,7 +3,7 @@ ghost use Rattle.std.specs.Prelude.{◌≡◌, IfOk};
 ghost use Rattle.lrs_history.specs.Cmi5LaunchMade.{said, saying_json};
 ghost use Rattle.lrs_json.specs.View.{view};
 
-use lrs_history::cmi5_launch::{Made, made_statement};
+use cmi5_launch::{Made, made_statement};
 use lrs_json::Memory;
 use lrs_names::{Id, Iri};
 use lrs_parts::HeldRegistration;

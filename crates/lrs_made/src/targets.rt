@@ -7,7 +7,7 @@ ghost use Rattle.lrs_parts.specs.Parts.{state_of};
 
 use crate::enrolments::enrolled;
 use cmi5_course::{Course, Unit};
-use lrs_history::cmi5_launch::activity_id;
+use cmi5_launch::activity_id;
 use lrs_json::Memory;
 use lrs_names::{Id, Iri};
 use lrs_parts::{HeldRegistration, Parts};

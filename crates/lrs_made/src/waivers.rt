@@ -10,7 +10,7 @@ use crate::enrolments::LentEnrolled;
 use crate::saying::statement_of;
 use crate::targets::LentTarget;
 use cmi5_course::Reason;
-use lrs_history::cmi5_launch::Made;
+use cmi5_launch::Made;
 use lrs_json::Memory;
 use lrs_names::Id;
 use lrs_parts::Parts;

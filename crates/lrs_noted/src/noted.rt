@@ -34,15 +34,3 @@ impl<T> Noted<T> {
         Noted { of: PhantomData }
     }
 }
-
-#[cfg(test)]
-mod tests {
-    use super::Noted;
-    use std::mem::size_of_val;
-
-    #[test]
-    fn a_list_has_no_bytes(rt: HostRuntime) {
-        let list = Noted::new().and(&1).and(&2);
-        assert_eq!(rt; size_of_val(&list), 0);
-    }
-}

@@ -11,7 +11,7 @@ mod spent;
 mod told;
 mod trees;
 
-pub use cmi5_running_verdicts::cmi5_verdict;
+pub use cmi5_running_verdicts::{Enrolment, push_if};
 pub use lrs_state::{
     Acceptance, Courses, CoursesChange, Effect, Founding, HeldKey, HeldProvider, HeldRegistration,
     HeldSession, HeldToken, KeysChange, LaunchesChange, Learner, Learning, MadeSession,

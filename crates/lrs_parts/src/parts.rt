@@ -10,7 +10,7 @@ ghost use Rattle.lrs_state.specs.State.{apply, nothing};
 use crate::following::{enrol_new, take_in_each};
 use crate::readying::ready_each;
 use crate::{Progress, SpentEffect};
-use cmi5_running_verdicts::xapi_index::Index;
+use cmi5_running_verdicts::Index;
 use lrs_ids::UsedIds;
 use lrs_json::Memory;
 use lrs_names::Id;

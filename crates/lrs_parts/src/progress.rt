@@ -9,9 +9,7 @@ ghost use Rattle.lrs_parts.specs.Trees.{AreTargets};
 
 use crate::trees::{clear, read_targets};
 use cmi5_running_sessions::Sessions;
-use cmi5_running_verdicts::Running;
-use cmi5_running_verdicts::cmi5_verdict::Enrolment;
-use cmi5_running_verdicts::xapi_index::Index;
+use cmi5_running_verdicts::{Enrolment, Index, Running};
 use lrs_json::{Items, Memory};
 use std::alloc::Global;
 use xapi_statement::StoredStatement;

@@ -19,8 +19,7 @@ ghost use Rattle.cmi5_running_verdicts.specs.XapiIndexIndex.{IsIndexReadyFor};
 
 use crate::Progress;
 use crate::following::enrolment_in;
-use cmi5_running_verdicts::cmi5_verdict::Enrolment;
-use cmi5_running_verdicts::xapi_index::Index;
+use cmi5_running_verdicts::{Enrolment, Index};
 use lrs_json::Memory;
 use lrs_state::{
     Courses, Effect, Founding, HeldRegistration, Learning, Providers, RegistrationsChange,

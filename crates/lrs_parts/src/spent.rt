@@ -8,3 +8,10 @@ pub struct SpentEffect {
     pub statements: Items<StoredStatement>,
     pub voided: Items<StoredStatement>,
 }
+
+impl SpentEffect {
+    /// Drops it. Crates above call this in place of `drop`, so that what drops it is proved here alone.
+    pub fn discard(self) {
+        drop(self);
+    }
+}

@@ -13,8 +13,8 @@ ghost use Rattle.lrs_parts.specs.Progress.{enrolment_in, number_held, number_in}
 
 use crate::Parts;
 use cmi5_course::Launch;
-use cmi5_running_sessions::cmi5_session::SessionView;
-use cmi5_running_verdicts::cmi5_verdict::{Enrolment, Statements, owed, verdicts, waived};
+use cmi5_running_sessions::SessionView;
+use cmi5_running_verdicts::{Enrolment, Statements, owed, verdicts, waived};
 use lrs_json::Memory;
 use lrs_names::Id;
 use lrs_state::{HeldRegistration, Registrations};

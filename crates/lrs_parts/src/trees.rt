@@ -7,8 +7,7 @@ ghost use Rattle.lrs_parts.specs.Trees.{AreTargets, voided_in};
 ghost use Rattle.lrs_register.specs.Register.{with_new};
 ghost use Rattle.xapi_statement.specs.Statements.{held_under, voided_by};
 
-use cmi5_running_verdicts::cmi5_verdict::voided_by;
-use cmi5_running_verdicts::xapi_index::Index;
+use cmi5_running_verdicts::{Index, voided_by};
 use lrs_json::{Items, Memory};
 use lrs_names::Id;
 use std::mem;

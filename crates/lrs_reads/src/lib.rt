@@ -5,6 +5,9 @@
 mod questions;
 mod sight;
 
-pub use lrs_refusals;
-pub use lrs_refusals::{lrs_history, lrs_made, xapi_pages};
+pub use lrs_refusals::{
+    Batch, Form, Known, PreparedTexts, Submission, add_owed, barred, batch_of, enrolled, launch_of,
+    refusal, refused_with, who_is,
+};
 pub use questions::read_answered;
+pub use xapi_pages::count_listed;

@@ -18,16 +18,15 @@ use lrs_command::{Read, Who};
 use lrs_json::{Items, Memory};
 use lrs_names::Id;
 use lrs_record::Caller;
-use lrs_refusals::lrs_history::{barred, outside};
-use lrs_refusals::lrs_made::{LentEnrolled, enrolled, verdicts_of};
-use lrs_refusals::lrs_parts::Parts;
-use lrs_refusals::xapi_pages::page_text;
-use lrs_refusals::{launch_of, who_is};
+use lrs_refusals::{
+    LentEnrolled, Parts, barred, enrolled, launch_of, outside, verdicts_of, who_is,
+};
 use lrs_replies::{Answered, Refusal, standing_text, states_text, versions_text};
 use lrs_rules::Rule;
 use std::alloc::Global;
 use xapi_docs::Document;
 use xapi_keys::WantedDocuments;
+use xapi_pages::page_text;
 use xapi_query::{MoreLink, Query, Wanted, sees};
 use xapi_statement::{Format, HeldStatement};
 

@@ -4,7 +4,7 @@ ghost use Rattle.lrs_refusals.specs.LrsHistoryWhose.{sight_of};
 ghost use Rattle.lrs_refusals.specs.LrsPartsParts.{state_of};
 
 use lrs_command::Who;
-use lrs_refusals::lrs_parts::Parts;
+use lrs_refusals::Parts;
 use xapi_query::Sight;
 
 /// What a caller sees of the statements.

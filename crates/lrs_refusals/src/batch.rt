@@ -13,7 +13,7 @@ ghost use Rattle.lrs_refusals.specs.Naming.{with_these_ids};
 use crate::Batch;
 use lrs_ids::{IdSupply, UsedIds};
 use lrs_json::{Items, Memory, Tree};
-use lrs_made::lrs_parts::Parts;
+use lrs_made::Parts;
 use lrs_names::Draw;
 use std::alloc::Global;
 use xapi_index::{given_ids, take_ids};

@@ -8,7 +8,7 @@ ghost use Rattle.lrs_made.specs.LrsPartsParts.{state_of};
 
 use cmi5_course::{Course, broken_course};
 use lrs_json::{Memory, Text, Tree};
-use lrs_made::lrs_parts::{Parts, course_id};
+use lrs_made::{Parts, course_id};
 use lrs_replies::Refusal;
 use lrs_rules::Rule;
 use std::alloc::Global;

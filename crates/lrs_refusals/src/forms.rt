@@ -6,7 +6,7 @@ ghost use Rattle.xapi_statement.specs.Statement.{is_too_long};
 ghost use Rattle.lrs_made.specs.LrsHistoryRefusals.{broken_in, is_too_large, other_id, refused_batch, refused_form};
 
 use lrs_json::{Memory, Tree};
-use lrs_made::lrs_history::MOST_OF_BATCH;
+use lrs_made::MOST_OF_BATCH;
 use lrs_names::Id;
 use lrs_replies::Refusal;
 use lrs_rules::Rule;

@@ -18,8 +18,9 @@ mod written;
 
 pub use batch::batch_of;
 pub use known::{Batch, Known};
-pub use lrs_made;
-pub use lrs_made::{lrs_history, lrs_parts, xapi_pages};
+pub use lrs_made::{
+    LentEnrolled, Parts, add_owed, barred, enrolled, outside, refused_with, verdicts_of,
+};
 pub use refusals::refusal;
 pub use submission::{Form, Submission};
 pub use whose::{launch_of, who_is};

@@ -19,11 +19,10 @@ use crate::whose::barred_document;
 use crate::written::PreparedTexts;
 use lrs_command::Who;
 use lrs_json::{Memory, Text};
-use lrs_made::lrs_history::{
-    barred, refused_actor, refused_agent, refused_document, refused_idle, refused_name,
+use lrs_made::{
+    Parts, barred, index_of_course, refused_actor, refused_agent, refused_document, refused_idle,
+    refused_name, target,
 };
-use lrs_made::lrs_parts::{Parts, index_of_course};
-use lrs_made::target;
 use lrs_media::is_json;
 use lrs_names::{Draw, Id, Iri};
 use lrs_record::{Entry, How, Write};

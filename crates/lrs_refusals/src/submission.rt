@@ -89,6 +89,11 @@ impl Submission {
         let Submission { form, command: _ } = self;
         form
     }
+
+    /// Drops it. Crates above call this in place of `drop`, so that what drops it is proved here alone.
+    pub fn discard(self) {
+        drop(self);
+    }
 }
 
 fn judged(alloc: Global, write: Write, same: Snapshot<Command>) -> Result<Submission, Memory>

@@ -10,8 +10,7 @@ ghost use Rattle.lrs_refusals.specs.Meeting.{was_abandoned};
 use cmi5_course::Launch;
 use lrs_command::Who;
 use lrs_json::Text;
-use lrs_made::lrs_history::overstepped;
-use lrs_made::lrs_parts::{Parts, is_admin};
+use lrs_made::{Parts, is_admin, overstepped};
 use lrs_record::{Caller, Write};
 use lrs_replies::Refusal;
 

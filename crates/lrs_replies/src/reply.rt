@@ -37,6 +37,13 @@ pub struct Reply {
     pub through: Option<Moment>,
 }
 
+impl Reply {
+    /// Drops it. Crates above call this in place of `drop`, so that what drops it is proved here alone.
+    pub fn discard(self) {
+        drop(self);
+    }
+}
+
 /// Why the store can't say anything.
 #[derive(Clone, Copy, Debug, PartialEq, Eq)]
 pub enum Trouble {

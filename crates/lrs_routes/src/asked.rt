@@ -14,6 +14,13 @@ pub struct Routed {
     pub(crate) operation: Operation,
 }
 
+impl Routed {
+    /// Drops it. Crates above call this in place of `drop`, so that what drops it is proved here alone.
+    pub fn discard(self) {
+        drop(self);
+    }
+}
+
 /// What a request asks: who asks, and what for.
 #[derive(Drop)]
 pub struct Asked {

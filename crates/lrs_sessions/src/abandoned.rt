@@ -9,9 +9,7 @@ ghost use Rattle.lrs_made.specs.LrsPartsParts.{state_of};
 
 use cmi5_course::Launch;
 use lrs_json::Memory;
-use lrs_made::cmi5_launch::Made;
-use lrs_made::lrs_parts::Parts;
-use lrs_made::{LentTarget, statement_of, target};
+use lrs_made::{LentTarget, Made, Parts, statement_of, target};
 use lrs_names::Id;
 use lrs_time::Moment;
 use std::alloc::Global;

@@ -7,8 +7,7 @@ ghost use Rattle.lrs_made.specs.LrsPartsParts.{state_of};
 use crate::numbers::launch_count;
 use cmi5_course::Launch;
 use lrs_json::Memory;
-use lrs_made::cmi5_verdict::push_if;
-use lrs_made::lrs_parts::Parts;
+use lrs_made::{Parts, push_if};
 use lrs_names::{Id, Iri};
 use std::alloc::Global;
 

@@ -12,6 +12,8 @@ mod numbers;
 pub use abandoned::abandoned_statements;
 pub use closed::{is_closed, is_open, open_of};
 pub use idle::idle_ones;
-pub use lrs_made;
-pub use lrs_made::{cmi5_launch, lrs_parts};
+pub use lrs_made::{
+    LentTarget, add_owed, enrolled_as, is_waived, make_one, make_under, statement_of, target,
+    waived_statement,
+};
 pub use numbers::{launch_count, sessions_at};

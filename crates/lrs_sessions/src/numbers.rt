@@ -4,7 +4,7 @@ ghost use Rattle.lrs_made.specs.LrsHistoryEndings.{sessions_at};
 ghost use Rattle.lrs_made.specs.LrsPartsParts.{state_of};
 
 use lrs_json::Memory;
-use lrs_made::lrs_parts::Parts;
+use lrs_made::Parts;
 use lrs_names::Id;
 use std::alloc::Global;
 

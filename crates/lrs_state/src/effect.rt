@@ -74,4 +74,9 @@ impl Effect {
             && !self.keys.changes()
             && !self.tokens.changes()
     }
+
+    /// Drops it. Crates above call this in place of `drop`, so that what drops it is proved here alone.
+    pub fn discard(self) {
+        drop(self);
+    }
 }

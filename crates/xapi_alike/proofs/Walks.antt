@@ -1,17 +1,18 @@
 -- Members and items of a normal form, by those of the value.
-use Rattle.std.proofs.Common.{◌≡◌, ◌≢◌, ℕ, ◌==◌, suc, ◌+◌, ◌<◌, get_or, length, ◌≤◌, arith, Bool, true, false, ◌&&◌, ◌||◌, List, [], ◌∷◌, ◌++◌, map, take, drop, if◌then◌else◌, refl, sym, ap, ◌∙◌, true≢false}
+use Rattle.std.proofs.Common.{◌≡◌, ◌≢◌, ℕ, ◌==◌, suc, ◌+◌, ◌<◌, ◌⊎◌, inl, inr, get_or, length, ◌≤◌, arith, Bool, true, false, ◌&&◌, ◌||◌, List, [], ◌∷◌, ◌++◌, map, take, drop, if◌then◌else◌, refl, sym, ap, ◌∙◌, true≢false}
 use Rattle.std.proofs.lemmas.Bool.{ne_eqb, eq-eqb}
 use Rattle.std.proofs.lemmas.List.{take-append-drop}
 use Rattle.std.specs.Str.{bytes_eq}
 use Rattle.std.proofs.lemmas.Slice.Eq.{bytes_eq-Decides}
 use Rattle.lrs_json.specs.Json.{Json, array, object, Elements, Members, no_members, member}
-use Rattle.lrs_json.specs.View.{elements_of, member_view, members_of}
+use Rattle.lrs_json.specs.View.{view, elements_of, member_view, members_of}
 use Rattle.lrs_json.specs.declared.tree.Member.{Member}
+use Rattle.lrs_json.specs.declared.tree.Tree.{Tree}
 use Rattle.lrs_json.proofs.Lists.{drop_item}
 use Rattle.xapi_alike.specs.declared.role.Role.{Role}
 use Rattle.xapi_alike.specs.Roles.{is_passed_over, kind_at, role_of_object, role_of_member, role_of_item, is_plural}
-use Rattle.xapi_alike.specs.Normal.{Normal, none, more, Named, named, normal, normal_one, normal_items, normal_members}
-use Rattle.xapi_alike.specs.Alike.{alike, all_alike, as_often, same_bag, has_name, any_named, named_alike, size}
+use Rattle.xapi_alike.specs.Normal.{Normal, Normals, none, more, Named, named, normal, normal_one, normal_items, normal_members}
+use Rattle.xapi_alike.specs.Alike.{alike, all_alike, as_often, same_count, same_bag, has_name, any_named, named_alike, size}
 use Rattle.xapi_alike.specs.Steps.{is_alike_within, any_alike, has_member_named}
 use Rattle.lrs_json_equal.proofs.SameValues.{absurd_or}
 
@@ -130,6 +131,51 @@ pub named_on : (p : Role) (ts : List Member) (i : ℕ) (m : Member) (ns : Named)
 named_on p ts i m ns r lt at is found =
     ap (λ (us : List Member). named_alike (normal_members p (members_of (map member_view us))) ns) (drop_item ts i m lt at)
     ∙ named_step p (member_view m).0 (member_view m).1 (members_of (map member_view (drop (i + 1) ts))) ns (sym is ∙ found)
+
+stop_at : (b : Bool) (k : List ℕ) (x : Normal) (rest ns : Named) → (if b then true else any_named k (alike x) ns) ≡ false → named_alike (if b then rest else named k x rest) ns ≡ false
+stop_at true k x rest ns e = absurd (true≢false e)
+stop_at false k x rest ns e = ap (λ (c : Bool). c && named_alike rest ns) e
+
+-- where the member in a role is alike to none, not each is
+pub named_off : (p : Role) (ts : List Member) (i : ℕ) (m : Member) (ns : Named) (r : Bool) → i < length ts → m ≡ get_or ts i m → r ≡ is_alike_within p (member_view m).0 (member_view m).1 ns → r ≡ false
+    → named_alike (normal_members p (members_of (map member_view (drop i ts)))) ns ≡ false
+named_off p ts i m ns r lt at is missed =
+    let k = (member_view m).0 in
+    ap (λ (us : List Member). named_alike (normal_members p (members_of (map member_view us))) ns) (drop_item ts i m lt at)
+    ∙ stop_at (is_passed_over p k) k (normal (role_of_member p k) (member_view m).1) (normal_members p (members_of (map member_view (drop (i + 1) ts)))) ns (sym is ∙ missed)
+
+-- after an item that occurs as often in both, what is left decides
+pub often_on : (p : Role) (ts : List Tree) (i : ℕ) (t : Tree) (xs ys : Normals) (r : Bool) → i < length ts → t ≡ get_or ts i t → r ≡ same_count (alike (normal p (view t))) xs ys → r ≡ true
+    → as_often (normal_items p (elements_of (map view (drop i ts)))) xs ys ≡ as_often (normal_items p (elements_of (map view (drop (i + 1) ts)))) xs ys
+often_on p ts i t xs ys r lt at is found =
+    ap (λ (us : List Tree). as_often (normal_items p (elements_of (map view us))) xs ys) (drop_item ts i t lt at)
+    ∙ ap (λ (b : Bool). b && as_often (normal_items p (elements_of (map view (drop (i + 1) ts)))) xs ys) (sym is ∙ found)
+
+and_off : (b c : Bool) → (b ≡ false) ⊎ (c ≡ false) → (b && c) ≡ false
+and_off true c (inl e) = absurd (true≢false e)
+and_off true c (inr e) = e
+and_off false c e = refl
+
+-- after a member of another name or another value, what is left decides
+pub any_off : (p : Role) (k : List ℕ) (j : Json) (ts : List Member) (i : ℕ) (m : Member) (n : List ℕ) (v : Json) → i < length ts → m ≡ get_or ts i m → (member_view m).0 ≡ n → (member_view m).1 ≡ v
+    → (bytes_eq n k ≡ false) ⊎ (alike (normal p j) (normal p v) ≡ false) → any_alike p k j (members_of (map member_view (drop i ts))) ≡ any_alike p k j (members_of (map member_view (drop (i + 1) ts)))
+any_off p k j ts i m n v lt at name value missed =
+    let here : (bytes_eq (member_view m).0 k && alike (normal p j) (normal p (member_view m).1)) ≡ false = rw (name, value) (and_off (bytes_eq n k) (alike (normal p j) (normal p v)) missed) in
+    ap (λ (us : List Member). any_alike p k j (members_of (map member_view us))) (drop_item ts i m lt at)
+    ∙ ap (λ (b : Bool). b || any_alike p k j (members_of (map member_view (drop (i + 1) ts)))) here
+
+pub any_hit : (p : Role) (k : List ℕ) (j : Json) (ts : List Member) (i : ℕ) (m : Member) (n : List ℕ) (v : Json) → i < length ts → m ≡ get_or ts i m → (member_view m).0 ≡ n → (member_view m).1 ≡ v
+    → bytes_eq n k ≡ true → alike (normal p j) (normal p v) ≡ true → any_alike p k j (members_of (map member_view (drop i ts))) ≡ true
+any_hit p k j ts i m n v lt at name value same found =
+    let here : (bytes_eq (member_view m).0 k && alike (normal p j) (normal p (member_view m).1)) ≡ true = rw (name, value, same, found) refl in
+    ap (λ (us : List Member). any_alike p k j (members_of (map member_view us))) (drop_item ts i m lt at)
+    ∙ ap (λ (b : Bool). b || any_alike p k j (members_of (map member_view (drop (i + 1) ts)))) here
+
+-- of no items each is alike to its partner
+pub all_done : (p : Role) (ts us : List Tree) → ts ≡ [] → us ≡ [] → all_alike (normal_items p (elements_of (map view ts))) (normal_items p (elements_of (map view us))) ≡ true
+all_done p ts us first second =
+    ap (λ (l : List Tree). all_alike (normal_items p (elements_of (map view l))) (normal_items p (elements_of (map view us)))) first
+    ∙ ap (λ (l : List Tree). all_alike none (normal_items p (elements_of (map view l)))) second
 
 pub size_items : (p : Role) (js : List Json) → size (normal_items p (elements_of js)) ≡ length js
 size_items p [] = refl

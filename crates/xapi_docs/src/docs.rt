@@ -151,9 +151,21 @@ impl Docs {
         ensures held { documents_in self.new ≡ with_document key document (documents_in self.old) }
         ensures slots { KeepsSlots key_cmp self.old self.new }
     {
-        if let Some(slot) = self.map.get_mut(&key) {
-            *slot = Some(document);
-        }
+        self.put(&key, document);
+        drop(key);
+    }
+
+    fn put(&mut self, key: &StateKey, document: Document)
+        requires { HasSlot key_cmp self.old key.now }
+        ensures held { documents_in self.new ≡ with_document key.now document (documents_in self.old) }
+        ensures slots { KeepsSlots key_cmp self.old self.new }
+    {
+        let Some(slot) = self.map.get_mut(key) else {
+            drop(document);
+            return;
+        };
+        let before = slot.replace(document);
+        drop(before);
     }
 
     /// Lets the document under a key go, where there is one. It takes no memory.

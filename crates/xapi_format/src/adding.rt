@@ -10,8 +10,7 @@ ghost use Rattle.xapi_values.specs.LrsTimeMoments.{moment_text};
 
 use lrs_json::Memory;
 use lrs_json::appending::put;
-use xapi_values::lrs_names::Id;
-use xapi_values::lrs_time::{Moment, moment_text};
+use xapi_values::{Id, Moment, moment_text};
 
 /// Appends the member `id`, behind a comma if other members stand before.
 #[tactic(auto, using(lrs_json::proofs::Extending::extends_trans))]

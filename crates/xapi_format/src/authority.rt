@@ -4,7 +4,7 @@ ghost use Rattle.std.specs.Str.{bytes_eq};
 use itoa::Buffer;
 use lrs_agents::Ifi;
 use lrs_json::{Memory, Text, utf8_text};
-use xapi_values::lrs_names::Id;
+use xapi_values::Id;
 
 /// Under whose authority a statement stands.
 #[derive(Drop)]

@@ -13,9 +13,7 @@ use crate::plural::{OfStatement, push_made};
 use crate::showing::is_added;
 use lrs_json::{Items, Member, Memory, Text, Tree, utf8_text};
 use std::alloc::Global;
-use xapi_values::lrs_names::Id;
-use xapi_values::lrs_time::{Moment, moment_text};
-use xapi_values::whole;
+use xapi_values::{Id, Moment, moment_text, whole};
 
 /// The completed form of a statement as a tree of its own: what was received, and after it what the store adds.
 pub fn completed(

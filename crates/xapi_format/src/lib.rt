@@ -18,5 +18,4 @@ pub use format::Format;
 pub use lrs_json::Memory;
 pub use showing::is_added;
 pub use written::WrittenAuthority;
-pub use xapi_values;
-pub use xapi_values::lrs_names;
+pub use xapi_values::{Id, is_nested};

@@ -14,7 +14,7 @@ ghost use Rattle.xapi_values.specs.LrsNamesMembers.{is_one_of};
 use crate::Authority;
 use lrs_json::appending::{put, put_name, put_quoted_parts, put_text};
 use lrs_json::{Memory, utf8_text};
-use xapi_values::lrs_names::Id;
+use xapi_values::Id;
 
 /// Whether the store writes the member of that name itself.
 pub fn is_added(name: &str) -> bool

@@ -16,11 +16,9 @@ ghost use Rattle.xapi_postings.specs.XapiStatementKeysKeys.{is_among};
 use crate::authorities::Authorities;
 use lrs_json::Memory;
 use std::vec::IntoIter;
-use xapi_postings::Postings;
-use xapi_postings::xapi_statement::{
-    HeldStatement, ReceivedText, SharedAuthority, StoredStatement,
+use xapi_postings::{
+    HeldStatement, Key, Keys, Postings, ReceivedText, SharedAuthority, StoredStatement,
 };
-use xapi_postings::xapi_statement_keys::{Key, Keys};
 
 // ---- written ahead
 

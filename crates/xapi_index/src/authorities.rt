@@ -5,7 +5,7 @@ use lrs_json::Memory;
 use std::alloc::Global;
 use std::collections::BTreeMap;
 use std::marker::Model;
-use xapi_postings::xapi_statement::{Authority, SharedAuthority};
+use xapi_postings::{Authority, SharedAuthority};
 
 /// Authorities under which statements came, in each bucket the last one, so that those that come share them.
 #[derive(Drop)]

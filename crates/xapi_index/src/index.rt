@@ -23,9 +23,7 @@ use lrs_time::Instant;
 use std::alloc::Global;
 use std::marker::Model;
 use std::vec::IntoIter;
-use xapi_postings::Postings;
-use xapi_postings::xapi_statement::{HeldStatement, ReceivedText, StoredStatement};
-use xapi_postings::xapi_statement_keys::{Key, Keys};
+use xapi_postings::{HeldStatement, Key, Keys, Postings, ReceivedText, StoredStatement};
 
 /// The statements in their order, and the positions under each of their keys.
 #[derive(Drop)]

@@ -3,7 +3,7 @@ ghost use Rattle.std.specs.Prelude.{◌≡◌, ◌≤◌, ◌-◌, [], ◌++◌,
 ghost use Rattle.xapi_index.specs.Index.{IsRising};
 
 use crate::times::still_rising;
-use xapi_postings::xapi_statement::HeldStatement;
+use xapi_postings::HeldStatement;
 
 /// Moves statements behind those that are held.
 pub(crate) fn install_each(

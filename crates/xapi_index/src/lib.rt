@@ -12,5 +12,6 @@ mod times;
 
 pub use index::Index;
 pub use naming::{given_ids, have_distinct_ids, take_ids};
-pub use xapi_postings;
-pub use xapi_postings::{xapi_query, xapi_statement, xapi_statement_keys};
+pub use xapi_postings::{
+    Format, HeldStatement, Key, Query, Sight, contains, first_from, in_time, last_below, link_text,
+};

@@ -10,7 +10,7 @@ use lrs_ids::{IdSupply, UsedIds, are_distinct};
 use lrs_json::{Memory, Tree};
 use lrs_names::Id;
 use std::alloc::Global;
-use xapi_postings::xapi_statement::own_id;
+use xapi_postings::own_id;
 
 /// Whether no two of them give themselves one id.
 pub fn have_distinct_ids(alloc: Global, statements: &[Tree]) -> Result<bool, Memory>

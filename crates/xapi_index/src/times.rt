@@ -6,7 +6,7 @@ ghost use Rattle.xapi_index.specs.Times.{AreLaterFrom, is_until, stands_behind};
 ghost use Rattle.xapi_postings.specs.XapiStatementStored.{StoredStatement as SpecStatement};
 
 use lrs_time::Instant;
-use xapi_postings::xapi_statement::HeldStatement;
+use xapi_postings::HeldStatement;
 
 // ---- no statement is older than one before it
 

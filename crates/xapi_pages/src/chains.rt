@@ -8,8 +8,7 @@ use lrs_json::Memory;
 use std::alloc::Global;
 use std::collections::BTreeMap;
 use std::marker::Model;
-use xapi_search::xapi_index::Index;
-use xapi_search::{Sought, is_direct_at};
+use xapi_search::{Index, Sought, is_direct_at};
 
 /// What is known of the chain of references of a statement.
 #[derive(Clone, Copy)]

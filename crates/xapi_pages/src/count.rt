@@ -3,7 +3,7 @@ ghost use Rattle.std.specs.Prelude.{◌≡◌, ◌<◌, length};
 ghost use Rattle.xapi_pages.specs.Listings.{every, is_listed_at, listed_of_all};
 ghost use Rattle.xapi_search.specs.XapiQuerySightSightTheVariants.{All};
 
-use xapi_search::xapi_index::Index;
+use xapi_search::Index;
 
 /// How many statements a query without filters lists to who sees each: those that aren't voided.
 pub fn count_listed(index: &Index) -> u64

@@ -12,9 +12,7 @@ ghost use Rattle.xapi_pages.specs.Searching.{Covers, IsPage, SkipsNone, TellsLis
 use crate::chains::{Marks, chain_passes};
 use lrs_json::Memory;
 use std::alloc::Global;
-use xapi_search::xapi_index::Index;
-use xapi_search::xapi_query::{Query, in_time};
-use xapi_search::{Candidates, Sought};
+use xapi_search::{Candidates, Index, Query, Sought, in_time};
 
 /// The positions of a page, and the last one of them if something follows it.
 #[derive(Drop)]

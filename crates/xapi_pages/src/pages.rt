@@ -8,9 +8,7 @@ use crate::listing::Page;
 use crate::searching::page_of;
 use lrs_json::{Memory, Tree, write};
 use std::alloc::Global;
-use xapi_search::xapi_index::Index;
-use xapi_search::xapi_query::{Query, Sight, link_text};
-use xapi_search::xapi_statement::{Format, HeldStatement};
+use xapi_search::{Format, HeldStatement, Index, Query, Sight, link_text};
 
 /// The body of the page after a position, in the list as of the first `asof` statements.
 pub fn page_text(

@@ -10,10 +10,9 @@ ghost use Rattle.xapi_pages.specs.Searching.{HasDirect, HaveAll, IsPage};
 use crate::listing::{Page, find_page};
 use lrs_json::Memory;
 use std::alloc::Global;
-use xapi_search::xapi_index::Index;
-use xapi_search::xapi_postings::xapi_statement_keys::Key;
-use xapi_search::xapi_query::{Query, Sight};
-use xapi_search::{Candidates, Lists, Seen, Sought, bounds, direct_below, reaching};
+use xapi_search::{
+    Candidates, Index, Key, Lists, Query, Seen, Sight, Sought, bounds, direct_below, reaching,
+};
 
 // So many candidates more than stand in a list, or in a part of it, may be looked at in vain, and so many steps along
 // references be walked, before another way to the page is gone.

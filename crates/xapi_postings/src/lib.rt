@@ -7,5 +7,7 @@ mod searching;
 
 pub use postings::Postings;
 pub use searching::{contains, first_from, last_below};
-pub use xapi_statement_keys;
-pub use xapi_statement_keys::{xapi_query, xapi_statement};
+pub use xapi_statement_keys::{
+    Authority, Format, HeldStatement, Key, Keys, Query, ReceivedText, SharedAuthority, Sight,
+    StoredStatement, in_time, link_text, own_id,
+};

@@ -6,7 +6,7 @@ ghost use Rattle.xapi_properties.specs.Activities.{is_activity_of, any_activity_
 
 use lrs_json::Tree;
 use lrs_names::is_word;
-use xapi_rules::xapi_values::{Kind, is_nested};
+use xapi_rules::{Kind, is_nested};
 
 fn has_id(tree: &Tree, id: &str) -> bool
     ensures { result ≡ has_member_that (codes "id") (is_word id.now) (view tree.now) }

@@ -7,9 +7,10 @@ mod members;
 mod parties;
 
 pub use activities::{has_activity, has_context_activity};
+pub use lrs_agents::Ifi;
 pub use members::{
     activity_of, extension_of, has_duration, own_id, registration_of, result_boolean, scaled_of,
     scaled_spelling, target_of, verb_of,
 };
 pub use parties::{has_agent, is_actor};
-pub use xapi_rules;
+pub use xapi_rules::{broken_rule, is_voiding};

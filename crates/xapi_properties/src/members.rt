@@ -9,8 +9,7 @@ ghost use Rattle.xapi_properties.specs.Members.{id_in, own_id, verb_of, registra
 use lrs_decimal::Decimal;
 use lrs_json::{Text, Tree};
 use lrs_names::{Id, has_member, text_under};
-use xapi_rules::xapi_values::Kind;
-use xapi_rules::xapi_values::numbers::spelling_under;
+use xapi_rules::{Kind, spelling_under};
 
 fn id_in(tree: &Tree) -> Option<Id>
     ensures { result ≡ id_in (view tree.now) }

@@ -5,9 +5,9 @@ ghost use Rattle.lrs_names.specs.Members.{has_member_that};
 ghost use Rattle.xapi_format.specs.Party.{is_identified, any_identified, has_identified, is_party};
 ghost use Rattle.xapi_properties.specs.Parties.{is_party_object, has_direct_agent, is_party_of_context, has_context_agent, nested_has_agent, has_related_agent, has_agent, agent_in, actor_of};
 
+use lrs_agents::Ifi;
 use lrs_json::Tree;
-use xapi_rules::lrs_agents::Ifi;
-use xapi_rules::xapi_values::{Kind, is_nested};
+use xapi_rules::{Kind, is_nested};
 
 #[tactic(auto, unfolding(xapi_format::specs::Party::is_identified))]
 fn is_identified(tree: &Tree, ifi: &Ifi) -> bool

@@ -15,5 +15,6 @@ pub use link::{MoreLink, link_text};
 pub use query::{Given, MOST_OF_PAGE, Query};
 pub use sight::{Sight, sees};
 pub use wanted::Wanted;
-pub use xapi_statement;
-pub use xapi_statement::Format;
+pub use xapi_statement::{
+    Authority, Format, HeldStatement, ReceivedText, SharedAuthority, StoredStatement, own_id,
+};

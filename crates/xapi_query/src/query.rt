@@ -1,8 +1,7 @@
 use lrs_json::Text;
 use lrs_names::{Id, Iri};
 use lrs_time::Instant;
-use xapi_statement::Format;
-use xapi_statement::lrs_agents::Ifi;
+use xapi_statement::{Format, Ifi};
 
 /// What was given as a parameter: its text, and what that means.
 #[derive(Drop)]

@@ -12,9 +12,9 @@ ghost use Rattle.xapi_received.specs.Received.{AreGiven, HasSpan, HasSpans, IsGi
 use crate::marks::{ByteSpan, Ending};
 use lrs_json::Memory;
 use lrs_time::Moment;
-use xapi_format::lrs_names::Id;
 use xapi_format::{
-    WrittenAuthority, put_given_times, put_given_version, put_id, put_own_times, put_own_version,
+    Id, WrittenAuthority, put_given_times, put_given_version, put_id, put_own_times,
+    put_own_version,
 };
 
 /// What the store writes after the members that are kept, and the closing brace. What was given for it stands in the

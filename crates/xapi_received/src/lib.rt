@@ -13,4 +13,4 @@ mod received;
 
 pub use lrs_json::Memory;
 pub use received::ReceivedText;
-pub use xapi_format;
+pub use xapi_format::{Authority, Format, WrittenAuthority, completed};

@@ -10,7 +10,7 @@ ghost use Rattle.xapi_format.specs.XapiValuesMemberwise.{each_member, with_each_
 
 use crate::draft::Draft;
 use lrs_json::{Member, Memory, Tree};
-use xapi_format::xapi_values::is_nested;
+use xapi_format::is_nested;
 
 /// What becomes of the value of a member, by its name.
 pub trait Plural {

@@ -16,14 +16,12 @@ use crate::marks::Ending;
 use crate::offsets::Offsets;
 use lrs_json::appending::put;
 use lrs_json::{Memory, Tree, is_written};
-use lrs_json_slices::Written;
-use lrs_json_slices::lrs_json_reader::reread;
+use lrs_json_slices::{Written, reread};
 use lrs_noted::Noted;
 use lrs_time::Moment;
 use std::alloc::Global;
 use std::marker::Model;
-use xapi_format::WrittenAuthority;
-use xapi_format::lrs_names::Id;
+use xapi_format::{Id, WrittenAuthority};
 
 /// The text of a received statement, seen as its tree: kept in place of it, since a tree takes several times as much
 /// memory. Marks beside the text tell which excerpts of it the completed form shows, so that this form is copied

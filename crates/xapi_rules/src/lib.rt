@@ -8,7 +8,7 @@ mod nulls;
 mod objects;
 mod rules;
 
-pub use lrs_agents;
 pub use lrs_json::Memory;
 pub use rules::{broken_rule, is_voiding};
-pub use xapi_values;
+pub use xapi_values::numbers::spelling_under;
+pub use xapi_values::{Kind, is_nested};

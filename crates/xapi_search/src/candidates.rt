@@ -5,7 +5,7 @@ ghost use Rattle.xapi_index.specs.XapiPostingsNearest.{IsGreatestBelow, IsLeastF
 ghost use Rattle.xapi_search.specs.Candidates.{IsFirstFrom, IsLastBefore, ListsAscend, stands_in};
 ghost use Rattle.xapi_search.specs.Nearer.{greater, if_below, if_from};
 
-use xapi_index::xapi_postings::{first_from, last_below};
+use xapi_index::{first_from, last_below};
 
 /// The lists in which candidates stand.
 #[derive(Clone, Copy)]

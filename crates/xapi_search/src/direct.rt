@@ -8,7 +8,7 @@ ghost use Rattle.xapi_search.specs.Sought.{AreAscending, AreDirect, SeenAscends,
 use crate::sought::{Seen, Sought};
 use lrs_json::Memory;
 use std::alloc::Global;
-use xapi_index::xapi_postings::first_from;
+use xapi_index::first_from;
 
 /// The positions among the first n of the statements that are seen and pass the filters by themselves, in order.
 pub fn direct_below(alloc: Global, sought: &Sought<'_>, n: usize) -> Result<Vec<u32>, Memory>

@@ -13,5 +13,4 @@ pub use direct::{direct_below, is_direct_at};
 pub use references::reaching;
 pub use sought::{Seen, Sought};
 pub use times::bounds;
-pub use xapi_index;
-pub use xapi_index::{xapi_postings, xapi_query, xapi_statement};
+pub use xapi_index::{Format, HeldStatement, Index, Key, Query, Sight, in_time, link_text};

@@ -15,10 +15,7 @@ use lrs_agents::Ifi;
 use lrs_json::{Memory, Text};
 use lrs_names::Id;
 use std::alloc::Global;
-use xapi_index::Index;
-use xapi_index::xapi_postings::contains;
-use xapi_index::xapi_postings::xapi_statement_keys::Key;
-use xapi_index::xapi_query::{Query, Sight};
+use xapi_index::{Index, Key, Query, Sight, contains};
 
 /// The positions of the statements that a caller sees.
 #[derive(Clone, Copy)]

@@ -5,8 +5,7 @@ ghost use Rattle.xapi_search.specs.Candidates.{Bounds};
 ghost use Rattle.xapi_index.specs.XapiStatementStored.{StoredStatement as SpecStatement};
 
 use lrs_time::Instant;
-use xapi_index::Index;
-use xapi_index::xapi_query::Query;
+use xapi_index::{Index, Query};
 
 /// The first of these positions among the first n, and the end of them. They are found by halving; where moments fell,
 /// they are 0 and n.

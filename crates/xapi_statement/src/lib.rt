@@ -16,10 +16,8 @@ pub use refused::{StatementRefused, judge};
 pub use shared::SharedAuthority;
 pub use statement::Statement;
 pub use stored::StoredStatement;
-pub use xapi_properties::xapi_rules::{broken_rule, is_voiding, lrs_agents};
 pub use xapi_properties::{
-    activity_of, extension_of, has_context_activity, has_duration, is_actor, own_id,
-    registration_of, result_boolean, scaled_spelling, target_of, verb_of,
+    Ifi, activity_of, broken_rule, extension_of, has_context_activity, has_duration, is_actor,
+    is_voiding, own_id, registration_of, result_boolean, scaled_spelling, target_of, verb_of,
 };
-pub use xapi_received::ReceivedText;
-pub use xapi_received::xapi_format::{Authority, Format};
+pub use xapi_received::{Authority, Format, ReceivedText};

@@ -5,7 +5,7 @@ ghost use Rattle.xapi_statement.specs.Statement.{is_too_long, refusal};
 use crate::length::is_too_long;
 use lrs_json::{Memory, Tree};
 use std::alloc::Global;
-use xapi_properties::xapi_rules::broken_rule;
+use xapi_properties::broken_rule;
 
 /// Why a value is no statement of the store.
 #[derive(Clone, Copy, Debug, PartialEq, Eq)]

@@ -5,7 +5,7 @@ use lrs_json::Memory;
 use std::alloc::Global;
 use std::marker::Model;
 use std::sync::Arc;
-use xapi_received::xapi_format::WrittenAuthority;
+use xapi_received::WrittenAuthority;
 
 /// An authority that statements share, seen as the authority: many stand under one, whose name is then kept once, and
 /// the text that each shows of it.

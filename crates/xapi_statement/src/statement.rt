@@ -11,7 +11,7 @@ use lrs_decimal::Decimal;
 use lrs_json::{Text, Tree};
 use lrs_names::Id;
 use std::alloc::Global;
-use xapi_properties::xapi_rules::lrs_agents::Ifi;
+use xapi_properties::Ifi;
 
 /// A value that breaks none of the rules on statements. One that was read isn't too long either; one that the store
 /// makes may be longer.
@@ -76,7 +76,7 @@ impl Statement {
     pub fn is_voiding(&self) -> bool
         ensures { result ≡ is_voiding (view self.now.tree) }
     {
-        xapi_properties::xapi_rules::is_voiding(&self.tree)
+        xapi_properties::is_voiding(&self.tree)
     }
 
     /// The statement to which its object refers.

@@ -10,7 +10,7 @@ use lrs_names::Id;
 use lrs_time::Moment;
 use std::alloc::Global;
 use std::marker::Model;
-use xapi_received::xapi_format::completed;
+use xapi_received::completed;
 use xapi_reduced::reduced;
 
 /// A statement as the store keeps it, with its tree: as it was received, under its id, with the moment at which it was

@@ -11,7 +11,7 @@ use lrs_agents::Ifi;
 use lrs_json::{Memory, Text, utf8_text};
 use lrs_names::Id;
 use std::alloc::Global;
-use xapi_query::xapi_statement::Authority;
+use xapi_query::Authority;
 
 /// The key of the authority's Agent, and that of the provider that it is.
 pub fn push_authority(keys: &mut Vec<Key>, authority: &Authority) -> Result<(), Memory>

@@ -13,7 +13,7 @@ use crate::roles::push_roles;
 use lrs_json::{Memory, Text};
 use lrs_names::Id;
 use std::alloc::Global;
-use xapi_query::xapi_statement::StoredStatement;
+use xapi_query::StoredStatement;
 
 /// The keys of a statement. One may stand in the list more than once.
 #[derive(Drop)]

@@ -13,5 +13,7 @@ mod roles;
 
 pub use key::Key;
 pub use keys::{Keys, law_of_keys};
-pub use xapi_query;
-pub use xapi_query::xapi_statement;
+pub use xapi_query::{
+    Authority, Format, HeldStatement, Query, ReceivedText, SharedAuthority, Sight, StoredStatement,
+    in_time, link_text, own_id,
+};

@@ -12,8 +12,8 @@ mod objects;
 pub mod shapes;
 
 pub use kinds::Kind;
-pub use lrs_names;
-pub use lrs_time;
+pub use lrs_names::Id;
+pub use lrs_time::{Moment, moment_text};
 pub use members::{broken_extensions_of, broken_iri_at, broken_map_at};
 pub use nested::is_nested;
 pub use objects::{push, whole};

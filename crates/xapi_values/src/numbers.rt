@@ -5,8 +5,7 @@ ghost use Rattle.lrs_json.specs.View.{view};
 ghost use Rattle.xapi_values.specs.Numbers.{IsNumberInRange, are_equal, is_number, compared, is_below, is_not_above, is_natural, is_count, are_numbers, are_in_order, is_score};
 ghost use Rattle.lrs_names.specs.Members.{if_member, spelling_of, spelling_under};
 
-use lrs_json::lrs_decimal::{Decimal, is_whole};
-use lrs_json::{Text, Tree};
+use lrs_json::{Decimal, Text, Tree, is_whole};
 use lrs_names::has_only;
 use std::cmp::Ordering;
 

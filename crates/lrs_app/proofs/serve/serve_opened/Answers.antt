@@ -11,7 +11,7 @@ returns-in-Ok-clause-served g c =
     c.args.desk c.serve_desk-desk.result.0 c.in-Ok.disk c.args.address.now c.args.workers c.args.connections c.args.seed _ _ c.serve_desk-desk.result.1
     c.length-length.result c.serve_desk-desk.result.2 c.requires.opened c.serve_desk-desk.ensures.goes_on c.length-length.ensures c.close.ensures.legal
     c.serve_desk-desk.ensures.within c.serve_desk-desk.ensures.later (omega (arith, c.in-Ok.ensures.kept)) c.in-Ok.ensures.later c.in-Ok.ensures.stops c.in-Ok.ensures.kept_line
-    c.in-Ok.ensures.closed c.in-Ok.ensures.durable c.serve_desk-desk.ensures.served
+    c.in-Ok.ensures.closed c.in-Ok.ensures.durable c.in-Ok.ensures.kept c.serve_desk-desk.ensures.served
 
 pub returns-in-Err-clause-served : goal.returns-in-Err-clause-served
 returns-in-Err-clause-served g c =

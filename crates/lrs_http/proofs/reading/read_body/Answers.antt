@@ -16,4 +16,4 @@ returns-clause-body g c =
     let long : length c.from_vec.result ≡ c.args.size = search rules in
     let told : stream_left c.from_vec.result after ≡ stream_left (take held (drop start kept)) left =
     ap (λ (l : List ℕ). stream_left l after) c.from_vec.ensures ∙ c.in_ok-fill_vector.ensures.left ∙ ap (λ (l : List ℕ). stream_left l left) front in
-    body_at kept c.remove_front.new.bytes.items c.from_vec.result left after start held c.args.size within c.remove_front.ensures told (λ less. omega arith) (omega arith) long
+    body_at kept c.remove_front.new.bytes.items c.from_vec.result left after start held c.args.size within c.remove_front.ensures.rest told (λ less. omega arith) (omega arith) long

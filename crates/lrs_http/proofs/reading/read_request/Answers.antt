@@ -1,4 +1,4 @@
-use Rattle.std.proofs.Common.{◌≡◌, ◌∙◌, List, ℕ, Option, Err, Ok, Result, sym, ap, subst, length, arith, rules, vec_len}
+use Rattle.std.proofs.Common.{◌≡◌, ◌∙◌, ◌+◌, List, ℕ, Option, Err, Ok, Result, sym, ap, subst, length, arith, rules, vec_len}
 use Rattle.std.specs.Prelude.{◌⊎◌, IsUtf8}
 use Rattle.std.proofs.lemmas.List.{length-take}
 use Rattle.std.proofs.lemmas.Result.{err_from_is_err_and}
@@ -10,7 +10,9 @@ use Rattle.lrs_http.specs.Links.{GivesRefusal}
 use Rattle.lrs_http.specs.Prospect.{parts_at}
 use Rattle.lrs_http.specs.Stream.{window}
 use Rattle.lrs_http.proofs.NextLemmas.{target_text, refused_head, refused_body, next_given, with_its_body}
+use Rattle.lrs_http.proofs.Taking.{takes_both, takes_more}
 use Rattle.lrs_http.proofs.reading.read_request.Goals as goal
+use Rattle.lrs_http.specs.declared.fields.TheConstants.{LONGEST_BODY}
 use Rattle.lrs_http.specs.declared.heads.TheConstants.{LONGEST_HEAD}
 
 pub take_head-requires-clause-text : goal.take_head-requires-clause-text
@@ -60,3 +62,21 @@ returns-clause-next g c =
     let is = subst (λ (l : List ℕ). let o : Result ℕ RequestRefused = Ok c.in_ok-request.size in announced (parts_at l fields spans) ≡ o) here c.in_ok-request.ensures.length in
     let same = with_its_body (parts_at c.window_of.result.now fields spans) c.in_ok-request.request body c.in_ok-request.ensures.request ∙ ap (λ (l : List ℕ). request_of (parts_at l fields spans) body) here in
     next_given _ kept left _ fields spans c.in_ok-request.size _ body c.read_head.ensures.left c.in_ok-spans.ensures.head is c.in_ok-request-2.ensures.body same
+
+pub returns-in_err-request-2-clause-bounded : goal.returns-in_err-request-2-clause-bounded
+returns-in_err-request-2-clause-bounded g c =
+    let start = g.L.Link.left c.args.link.now in
+    let mid = g.L.Link.left c.read_head.new.link in
+    let end = g.L.Link.left c.read_body.new.link in
+    let size = c.in_ok-request.size in
+    let bound = c.in_ok-request.ensures.bound in
+    takes_more (LONGEST_HEAD + size) (LONGEST_HEAD + LONGEST_BODY) start end (omega (arith, bound)) (takes_both LONGEST_HEAD size start mid end c.read_head.ensures.off c.read_body.ensures.off)
+
+pub returns-clause-bounded : goal.returns-clause-bounded
+returns-clause-bounded g c =
+    let start = g.L.Link.left c.args.link.now in
+    let mid = g.L.Link.left c.read_head.new.link in
+    let end = g.L.Link.left c.read_body.new.link in
+    let size = c.in_ok-request.size in
+    let bound = c.in_ok-request.ensures.bound in
+    takes_more (LONGEST_HEAD + size) (LONGEST_HEAD + LONGEST_BODY) start end (omega (arith, bound)) (takes_both LONGEST_HEAD size start mid end c.read_head.ensures.off c.read_body.ensures.off)

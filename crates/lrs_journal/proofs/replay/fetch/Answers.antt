@@ -1,8 +1,15 @@
-use Rattle.std.proofs.Common.{drop, refl, sym, subst, ◌∙◌, arith}
+use Rattle.std.proofs.Common.{◌≡◌, ◌≢◌, ℕ, drop, refl, sym, subst, ◌∙◌, arith}
 use Rattle.lrs_journal.specs.Replay.{IsAhead}
+use Rattle.lrs_journal.specs.declared.replay.Ahead.TheVariants as ahead
 use Rattle.lrs_journal.proofs.Passing.{fetched_frame, fetched_within}
 use Rattle.lrs_journal.proofs.Untouched.{untouched_then}
 use Rattle.lrs_journal.proofs.replay.fetch.Goals as goal
+
+no_frame_at_end : (size : ℕ) → ahead.End ≢ ahead.Frame size
+no_frame_at_end size is = cc is
+
+no_torn_frame : (size : ℕ) → ahead.Torn ≢ ahead.Frame size
+no_torn_frame size is = cc is
 
 pub load-requires : goal.load-requires
 load-requires g c = record {
@@ -12,10 +19,10 @@ load-requires g c = record {
 }
 
 pub returns-in-End-clause-found : goal.returns-in-End-clause-found
-returns-in-End-clause-found g c x told_x = (subst (IsAhead (drop c.args.offset x)) c.in-End.is (c.in_ok-look.ensures.found x told_x), λ size is. absurd (cc is))
+returns-in-End-clause-found g c x told_x = (subst (IsAhead (drop c.args.offset x)) c.in-End.is (c.in_ok-look.ensures.found x told_x), λ size is. absurd (no_frame_at_end size is))
 
 pub returns-in-Torn-clause-found : goal.returns-in-Torn-clause-found
-returns-in-Torn-clause-found g c x told_x = (subst (IsAhead (drop c.args.offset x)) c.in-Torn.is (c.in_ok-look.ensures.found x told_x), λ size is. absurd (cc is))
+returns-in-Torn-clause-found g c x told_x = (subst (IsAhead (drop c.args.offset x)) c.in-Torn.is (c.in_ok-look.ensures.found x told_x), λ size is. absurd (no_torn_frame size is))
 
 pub returns-in-Frame-clause-found : goal.returns-in-Frame-clause-found
 returns-in-Frame-clause-found g c =

@@ -1,6 +1,7 @@
 use Rattle.lrs_laws.proofs.Abandoned.{abandoned_sessions_are_silent}
 use Rattle.lrs_laws.proofs.LaunchLaws.{launches_leave_statements}
 use Rattle.lrs_laws.proofs.KeyLaws.{keys_are_their_launches}
+use Rattle.lrs_laws.proofs.OneOpen.{one_session_is_open}
 use Rattle.lrs_laws.proofs.OpenedSessions.{given_tokens_act}
 use Rattle.lrs_laws.proofs.SessionLaws.{other_tokens_are_unknown, session_tokens_were_given, sessions_are_barred_from_the_desk, sessions_are_launched, sessions_keep_launch_data, sessions_keep_to_their_documents, sessions_see_their_registration}
 use Rattle.lrs_laws.proofs.CountedOnce.{results_count_once}
@@ -36,6 +37,9 @@ returns-clause-documents c = sessions_keep_to_their_documents
 
 pub returns-clause-launch_data : goal.returns-clause-launch_data
 returns-clause-launch_data c = sessions_keep_launch_data
+
+pub returns-clause-one : goal.returns-clause-one
+returns-clause-one c = one_session_is_open
 
 pub returns-clause-order : goal.returns-clause-order
 returns-clause-order c = sessions_speak_in_order

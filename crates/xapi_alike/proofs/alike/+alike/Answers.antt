@@ -1,19 +1,22 @@
-use Rattle.std.proofs.Common.{◌≡◌, ◌≤◌, ℕ, List, [], ◌∷◌, length, true, false, map, refl, sym, ap, ◌∙◌, subst, rules}
+use Rattle.std.proofs.Common.{◌≡◌, ◌⊎◌, inl, inr, ◌≤◌, ℕ, List, [], ◌∷◌, length, true, false, map, refl, sym, ap, ◌∙◌, subst, rules}
 use Rattle.std.proofs.lemmas.Iterator.{empty_from_Zip}
 use Rattle.std.proofs.lemmas.List.{length-map}
+use Rattle.std.proofs.lemmas.Slice.Zip.{Zip-more}
 use Rattle.std.proofs.lemmas.Option.{slice_get_read}
 use Rattle.std.specs.List.Sorted.{IsPermutation}
+use Rattle.std.specs.Str.{bytes_eq}
 use Rattle.lrs_json.specs.Json.{array, object}
 use Rattle.lrs_json.specs.View.{view, member_view, elements_of, members_of}
 use Rattle.lrs_json.specs.declared.tree.Tree.{Tree, the_lemmas}
 use Rattle.xapi_alike.specs.declared.role.Role.{Role}
-use Rattle.xapi_alike.specs.Normal.{Normals, normal_one, normal_items, normal_members}
-use Rattle.xapi_alike.specs.Alike.{same_bag}
+use Rattle.xapi_alike.specs.Normal.{Normals, normal, normal_one, normal_items, normal_members}
+use Rattle.xapi_alike.specs.Alike.{alike, same_bag}
 use Rattle.xapi_alike.specs.Steps.{any_alike}
 use Rattle.xapi_alike.specs.Ranks.{indices_to}
 use Rattle.xapi_alike.proofs.Ranking.{Ranked, ranked_first, ranked_next, ranked_last, told_apart}
 use Rattle.xapi_alike.proofs.Bags.{bag_refl}
-use Rattle.xapi_alike.proofs.Walks.{lengths_differ, sizes_differ, sizes_agree, too_many, too_few, any_behind, any_in_front, within, named_on, is_activities, array_and_object, object_and_array}
+use Rattle.xapi_alike.proofs.Walks.{lengths_differ, sizes_differ, sizes_agree, too_many, too_few, any_behind, any_in_front, within, named_on, named_off, often_on, all_done, any_off, any_hit, is_activities, array_and_object, object_and_array}
+use Rattle.xapi_alike.proofs.alike.+alike.Goals.{any_is_alike-else-eq-via-then-eq+else-are_alike, any_is_alike-else-eq-via-else-eq}
 use Rattle.xapi_alike.proofs.alike.+alike.Goals as goal
 
 pub items_are_alike-returns-then-a-b : goal.items_are_alike-returns-then-a-b
@@ -88,6 +91,51 @@ many_are_alike-loop-member-preserved t c =
     ∙ named_on c.args.role c.args.a.now c.loop-member.member-index c.member-item.result (normal_members c.args.role (members_of (map member_view c.args.b.now))) c.is_alike_within.result
     c.loop-member-test.true c.member-item.is c.is_alike_within.ensures (search rules)
 
+pub few_are_alike-returns-then-not-is_alike_within : goal.few_are_alike-returns-then-not-is_alike_within
+few_are_alike-returns-then-not-is_alike_within t c =
+    sym (c.loop-member.invariant
+    ∙ named_off c.args.role c.args.a.now c.loop-member.member-index c.member-item.result (normal_members c.args.role (members_of (map member_view c.args.b.now))) c.is_alike_within.result
+    c.loop-member-test.true c.member-item.is c.is_alike_within.ensures (search rules))
+
+pub many_are_alike-returns-then-not-is_alike_within : goal.many_are_alike-returns-then-not-is_alike_within
+many_are_alike-returns-then-not-is_alike_within t c =
+    sym (c.loop-member.invariant
+    ∙ named_off c.args.role c.args.a.now c.loop-member.member-index c.member-item.result (normal_members c.args.role (members_of (map member_view c.args.b.now))) c.is_alike_within.result
+    c.loop-member-test.true c.member-item.is c.is_alike_within.ensures (search rules))
+
+pub each_occurs_as_often-loop-item-preserved : goal.each_occurs_as_often-loop-item-preserved
+each_occurs_as_often-loop-item-preserved t c =
+    let bag : List Tree → Normals = λ ts. normal_items c.args.role (elements_of (map view ts)) in
+    c.loop-item.invariant
+    ∙ often_on c.args.role c.args.items.now c.loop-item.item-index c.item-item.result (bag c.args.a.now) (bag c.args.b.now) c.occurs_as_often.result
+    c.loop-item-test.true c.item-item.is c.occurs_as_often.ensures (search rules)
+
+pub items_are_alike-returns : goal.items_are_alike-returns
+items_are_alike-returns t c =
+    let ends = empty_from_Zip c.loop-x.x-iterator c.next.new.self c.next.result c.in-None.is c.next.ensures.steps c.loop-x.invariant.1 in
+    sym (c.loop-x.invariant.0 ∙ all_done c.args.role c.loop-x.x-iterator.a.rest.now c.loop-x.x-iterator.b.rest.now ends.0 ends.1)
+
+pub any_is_alike-loop-member-preserved : goal.any_is_alike-loop-member-preserved
+any_is_alike-loop-member-preserved t c =
+    let m = c.member-item.result in
+    let name : (member_view m).0 ≡ c.as_str.result.now = search (rules, the_lemmas) in
+    let value : (member_view m).1 ≡ view m.value = search (rules, the_lemmas) in
+    let missed : (bytes_eq c.as_str.result.now c.args.name.now ≡ false) ⊎ (alike (normal c.args.role (view c.args.value.now)) (normal c.args.role (view m.value)) ≡ false) = elim c.else-eq.branch [
+      | any_is_alike-else-eq-via-then-eq+else-are_alike w ↦ inr (sym w.are_alike.ensures ∙ w.if-are_alike.false)
+      | any_is_alike-else-eq-via-else-eq w ↦ inl (sym c.eq.ensures ∙ w.if-eq.false)
+    ] in
+    c.loop-member.invariant
+    ∙ any_off c.args.role c.args.name.now (view c.args.value.now) c.args.members.now c.loop-member.member-index m _ _ c.loop-member-test.true c.member-item.is name value missed
+
+pub any_is_alike-returns-then-are_alike : goal.any_is_alike-returns-then-are_alike
+any_is_alike-returns-then-are_alike t c =
+    let m = c.member-item.result in
+    let name : (member_view m).0 ≡ c.as_str.result.now = search (rules, the_lemmas) in
+    let value : (member_view m).1 ≡ view m.value = search (rules, the_lemmas) in
+    sym (c.loop-member.invariant
+    ∙ any_hit c.args.role c.args.name.now (view c.args.value.now) c.args.members.now c.loop-member.member-index m _ _ c.loop-member-test.true c.member-item.is name value
+    (sym c.eq.ensures ∙ c.if-eq.true) (sym c.are_alike.ensures ∙ c.if-are_alike.true))
+
 pub is_told_apart-returns-else-occurs_as_often : goal.is_told_apart-returns-else-occurs_as_often
 is_told_apart-returns-else-occurs_as_often t c =
     let there = slice_get_read c.args.a.now (length c.args.a.now) c.args.at c.in_ok-item.item.now refl (search rules) (search rules) in
@@ -108,8 +156,9 @@ pub are_alike_by_rank-loop-i-preserved : goal.are_alike_by_rank-loop-i-preserved
 are_alike_by_rank-loop-i-preserved t c =
     let is = c.next.new.self.a.rest.now in
     let js = c.next.new.self.b.rest.now in
-    let left : c.loop-i.i-iterator.a.rest.now ≡ c.in-Some.i.now ∷ is = search rules in
-    let right : c.loop-i.i-iterator.b.rest.now ≡ c.in-Some.j.now ∷ js = search rules in
+    let more = Zip-more c.loop-i.i-iterator c.next.new.self c.next.result (c.in-Some.i, c.in-Some.j) c.in-Some.is c.next.ensures.steps in
+    let left : c.loop-i.i-iterator.a.rest.now ≡ c.in-Some.i.now ∷ is = more.0 in
+    let right : c.loop-i.i-iterator.b.rest.now ≡ c.in-Some.j.now ∷ js = more.1 in
     let x = slice_get_read c.args.a.now (length c.args.a.now) c.in-Some.i.now c.in-Some-Some.x.now refl (search rules) (search rules) in
     let y = slice_get_read c.args.b.now (length c.args.b.now) c.in-Some.j.now c.in-Some-Some.y.now refl (search rules) (search rules) in
     let yes : c.are_alike.result ≡ true = search rules in

@@ -1,4 +1,4 @@
-use Rattle.std.proofs.Common.{◌≡◌, ◌∙◌, ◌-◌, ℕ, [], length, take, drop, Some, min, ap, sym, refl, arith}
+use Rattle.std.proofs.Common.{◌≡◌, ◌∙◌, ◌-◌, ℕ, [], length, take, drop, Some, min, ap, sym, refl, true≢false, arith}
 use Rattle.lrs_journal.proofs.Frames.{at_some, head_is, header_front, has_header, read_none}
 use Rattle.lrs_journal.proofs.journal.Journal.recover.Goals as goal
 
@@ -22,7 +22,7 @@ invariant_of-result g c =
           let bytes = at_some (λ b. take c.in-Ok-read_at.number c.read_at.new.into ≡ take c.in-Ok-read_at.number (drop 0 b)) (told d2) x told_2 c.in-Ok-read_at.ensures.bytes in
           let front : take c.min.result c.read_at.new.into ≡ take 17 x = ap (λ (k : ℕ). take k c.read_at.new.into) c.min.ensures ∙ head_is 17 c.in-Ok-read_at.number c.read_at.new.into x (omega (arith, number)) bytes in
           ([], read_none x c.in-Some.limit (has_header x c.in-Some.limit (sym front ∙ c.in-Some.ensures.found.0) c.in-Some.ensures.found.1 c.in-Some.ensures.found.2));
-      ends = λ x told_x no. cc no;
+      ends = λ x told_x no. absurd (true≢false (sym no));
     }
 
 pub returns-in-None-clause-not_a_store : goal.returns-in-None-clause-not_a_store

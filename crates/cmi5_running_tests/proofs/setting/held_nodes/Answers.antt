@@ -1,5 +1,0 @@
-use Rattle.cmi5_running_tests.proofs.Readied.{nodes_behind}
-use Rattle.cmi5_running_tests.proofs.setting.held_nodes.Goals as goal
-
-pub returns : goal.returns
-returns c = nodes_behind c.args.course.now c.nodes.result.now c.nodes.ensures.lent c.nodes.ensures.read

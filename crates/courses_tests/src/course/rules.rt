@@ -1,0 +1,517 @@
+// Which courses break a rule, and which one as the least.
+use crate::failing::wrong_row;
+use cmi5_course::broken_course;
+use lrs_json_reader::read;
+use std::alloc::Global;
+use std::test::Fail;
+
+pub(crate) fn rule_of(alloc: Global, text: &str) -> Result<Option<u8>, Fail> {
+    let tree = read(alloc, text.as_bytes())?;
+    Ok(broken_course(alloc, &tree)?)
+}
+
+// Fails with the first row, a rule and a course, whose course doesn't break that rule as the least.
+fn check_rules(alloc: Global, rows: &[(u8, &str)]) -> Result<(), Fail> {
+    for (i, (rule, text)) in rows.iter().enumerate() {
+        if rule_of(alloc, text)? != Some(*rule) {
+            return wrong_row(i);
+        }
+    }
+    Ok(())
+}
+
+// Courses that break no rule.
+const LAWFUL: [&str; 41] = [
+    "{\"id\":\"http://c/1\",\"title\":{\"en\":\"C\"},\"children\":[{\"kind\":\"block\",\"id\":\"http://c/b\",\"title\":{\"en\":\"B\"},\"children\":[{\"kind\":\"unit\",\"id\":\"http://c/u\",\"title\":{\"en\":\"U\"},\"url\":\"https://au.example/u\",\"moveOn\":\"CompletedAndPassed\",\"masteryScore\":0.8}]}]}",
+    "{\"id\":\"http://c/1\",\"title\":{\"en\":\"C\"},\"children\":[{\"kind\":\"unit\",\"id\":\"http://c/u\",\"title\":{\"en\":\"U\"},\"url\":\"http://a/u\"}]}",
+    "{\"id\":\"http://c/1\",\"title\":{\"en\":\"C\"},\"children\":[{\"kind\":\"block\",\"id\":\"http://c/b\",\"title\":{\"en\":\"B\"},\"children\":[{\"kind\":\"unit\",\"id\":\"http://c/u\",\"title\":{\"en\":\"U\"},\"url\":\"http://a/u\"}]}]}",
+    "{\"id\":\"http://c/1\",\"title\":{\"en\":\"C\"},\"children\":[{\"kind\":\"unit\",\"id\":\"http://c/u\",\"title\":{\"en\":\"U\"},\"url\":\"http://a/u\",\"description\":{\"de-CH\":\"u\",\"en\":\"\"}}]}",
+    "{\"id\":\"a:b\",\"title\":{\"en\":\"C\"},\"description\":{\"en\":\"d\"},\"children\":[{\"kind\":\"block\",\"id\":\"http://c/b\",\"title\":{\"en\":\"B\"},\"description\":{\"en\":\"b\"},\"children\":[{\"kind\":\"unit\",\"id\":\"http://c/u\",\"title\":{\"en\":\"U\"},\"url\":\"http://a/u\"}]}]}",
+    "{\"children\":[{\"url\":\"http://a/u\",\"title\":{\"en\":\"U\"},\"id\":\"http://c/u\",\"kind\":\"unit\"}],\"title\":{\"en\":\"C\"},\"id\":\"http://c/1\"}",
+    "{\"id\":\"http://c/1\",\"title\":{\"en\":\"C\"},\"children\":[{\"kind\":\"unit\",\"id\":\"http://c/u\",\"title\":{\"en\":\"U\"},\"url\":\"http://a/u\",\"moveOn\":\"NotApplicable\"}]}",
+    "{\"id\":\"http://c/1\",\"title\":{\"en\":\"C\"},\"children\":[{\"kind\":\"unit\",\"id\":\"http://c/u\",\"title\":{\"en\":\"U\"},\"url\":\"http://a/u\",\"moveOn\":\"Passed\"}]}",
+    "{\"id\":\"http://c/1\",\"title\":{\"en\":\"C\"},\"children\":[{\"kind\":\"unit\",\"id\":\"http://c/u\",\"title\":{\"en\":\"U\"},\"url\":\"http://a/u\",\"moveOn\":\"Completed\"}]}",
+    "{\"id\":\"http://c/1\",\"title\":{\"en\":\"C\"},\"children\":[{\"kind\":\"unit\",\"id\":\"http://c/u\",\"title\":{\"en\":\"U\"},\"url\":\"http://a/u\",\"moveOn\":\"CompletedAndPassed\"}]}",
+    "{\"id\":\"http://c/1\",\"title\":{\"en\":\"C\"},\"children\":[{\"kind\":\"unit\",\"id\":\"http://c/u\",\"title\":{\"en\":\"U\"},\"url\":\"http://a/u\",\"moveOn\":\"CompletedOrPassed\"}]}",
+    "{\"id\":\"http://c/1\",\"title\":{\"en\":\"C\"},\"children\":[{\"kind\":\"unit\",\"id\":\"http://c/u\",\"title\":{\"en\":\"U\"},\"url\":\"http://a/u\",\"masteryScore\":0}]}",
+    "{\"id\":\"http://c/1\",\"title\":{\"en\":\"C\"},\"children\":[{\"kind\":\"unit\",\"id\":\"http://c/u\",\"title\":{\"en\":\"U\"},\"url\":\"http://a/u\",\"masteryScore\":1}]}",
+    "{\"id\":\"http://c/1\",\"title\":{\"en\":\"C\"},\"children\":[{\"kind\":\"unit\",\"id\":\"http://c/u\",\"title\":{\"en\":\"U\"},\"url\":\"http://a/u\",\"masteryScore\":-0}]}",
+    "{\"id\":\"http://c/1\",\"title\":{\"en\":\"C\"},\"children\":[{\"kind\":\"unit\",\"id\":\"http://c/u\",\"title\":{\"en\":\"U\"},\"url\":\"http://a/u\",\"masteryScore\":1e0}]}",
+    "{\"id\":\"http://c/1\",\"title\":{\"en\":\"C\"},\"children\":[{\"kind\":\"unit\",\"id\":\"http://c/u\",\"title\":{\"en\":\"U\"},\"url\":\"http://a/u\",\"masteryScore\":10e-1}]}",
+    "{\"id\":\"http://c/1\",\"title\":{\"en\":\"C\"},\"children\":[{\"kind\":\"unit\",\"id\":\"http://c/u\",\"title\":{\"en\":\"U\"},\"url\":\"http://a/u\",\"masteryScore\":0.0}]}",
+    "{\"id\":\"http://c/1\",\"title\":{\"en\":\"C\"},\"children\":[{\"kind\":\"unit\",\"id\":\"http://c/u\",\"title\":{\"en\":\"U\"},\"url\":\"http://a/u\",\"masteryScore\":0.80}]}",
+    "{\"id\":\"http://c/1\",\"title\":{\"en\":\"C\"},\"children\":[{\"kind\":\"unit\",\"id\":\"http://c/u\",\"title\":{\"en\":\"U\"},\"url\":\"http://a/u\",\"masteryScore\":1.000}]}",
+    "{\"id\":\"http://c/1\",\"title\":{\"en\":\"C\"},\"children\":[{\"kind\":\"unit\",\"id\":\"http://c/u\",\"title\":{\"en\":\"U\"},\"url\":\"http://a/u\",\"masteryScore\":1e-999}]}",
+    "{\"id\":\"http://c/1\",\"title\":{\"en\":\"C\"},\"children\":[{\"kind\":\"unit\",\"id\":\"http://c/u\",\"title\":{\"en\":\"U\"},\"url\":\"http://a/u\",\"launchMethod\":\"OwnWindow\"}]}",
+    "{\"id\":\"http://c/1\",\"title\":{\"en\":\"C\"},\"children\":[{\"kind\":\"unit\",\"id\":\"http://c/u\",\"title\":{\"en\":\"U\"},\"url\":\"http://a/u\",\"launchMethod\":\"AnyWindow\"}]}",
+    "{\"id\":\"http://c/1\",\"title\":{\"en\":\"C\"},\"children\":[{\"kind\":\"unit\",\"id\":\"http://c/u\",\"title\":{\"en\":\"U\"},\"url\":\"http://a/u\",\"launchParameters\":\"\",\"entitlementKey\":\"\",\"activityType\":\"a:b\"}]}",
+    "{\"id\":\"http://c/1\",\"title\":{\"en\":\"C\"},\"children\":[{\"kind\":\"unit\",\"id\":\"http://c/u\",\"title\":{\"en\":\"U\"},\"url\":\"http://a/u?x=1&y\"}]}",
+    "{\"id\":\"http://c/1\",\"title\":{\"en\":\"C\"},\"children\":[{\"kind\":\"unit\",\"id\":\"http://c/u\",\"title\":{\"en\":\"U\"},\"url\":\"http://a/u?\"}]}",
+    "{\"id\":\"http://c/1\",\"title\":{\"en\":\"C\"},\"children\":[{\"kind\":\"unit\",\"id\":\"http://c/u\",\"title\":{\"en\":\"U\"},\"url\":\"http://a/u#f\"}]}",
+    "{\"id\":\"http://c/1\",\"title\":{\"en\":\"C\"},\"children\":[{\"kind\":\"unit\",\"id\":\"http://c/u\",\"title\":{\"en\":\"U\"},\"url\":\"http://a/u?x#f\"}]}",
+    "{\"id\":\"http://c/1\",\"title\":{\"en\":\"C\"},\"children\":[{\"kind\":\"unit\",\"id\":\"http://c/u\",\"title\":{\"en\":\"U\"},\"url\":\"http://a/u#?endpoint=1\"}]}",
+    "{\"id\":\"http://c/1\",\"title\":{\"en\":\"C\"},\"children\":[{\"kind\":\"unit\",\"id\":\"http://c/u\",\"title\":{\"en\":\"U\"},\"url\":\"HTTP://EXAMPLE.com/U\"}]}",
+    "{\"id\":\"http://c/1\",\"title\":{\"en\":\"C\"},\"children\":[{\"kind\":\"unit\",\"id\":\"http://c/u\",\"title\":{\"en\":\"U\"},\"url\":\"hTTps://a\"}]}",
+    "{\"id\":\"http://c/1\",\"title\":{\"en\":\"C\"},\"children\":[{\"kind\":\"unit\",\"id\":\"http://c/u\",\"title\":{\"en\":\"U\"},\"url\":\"https://a:8443/u\"}]}",
+    "{\"id\":\"http://c/1\",\"title\":{\"en\":\"C\"},\"children\":[{\"kind\":\"unit\",\"id\":\"http://c/u\",\"title\":{\"en\":\"U\"},\"url\":\"http://bücher.example/ü\"}]}",
+    "{\"id\":\"http://c/1\",\"title\":{\"en\":\"C\"},\"children\":[{\"kind\":\"unit\",\"id\":\"http://c/u\",\"title\":{\"en\":\"U\"},\"url\":\"http://a/u?Endpoint=1\"}]}",
+    "{\"id\":\"http://c/1\",\"title\":{\"en\":\"C\"},\"children\":[{\"kind\":\"unit\",\"id\":\"http://c/u\",\"title\":{\"en\":\"U\"},\"url\":\"http://a/u?endpoints=1\"}]}",
+    "{\"id\":\"http://c/1\",\"title\":{\"en\":\"C\"},\"children\":[{\"kind\":\"unit\",\"id\":\"http://c/u\",\"title\":{\"en\":\"U\"},\"url\":\"http://a/u?x=endpoint\"}]}",
+    "{\"id\":\"http://c/1\",\"title\":{\"en\":\"C\"},\"children\":[{\"kind\":\"unit\",\"id\":\"http://c/u\",\"title\":{\"en\":\"U\"},\"url\":\"http://a/u?%2565ndpoint=1\"}]}",
+    "{\"id\":\"http://c/1\",\"title\":{\"en\":\"C\"},\"children\":[{\"kind\":\"unit\",\"id\":\"http://c/u\",\"title\":{\"en\":\"U\"},\"url\":\"http://a/u?x=1;fetch=2\"}]}",
+    "{\"id\":\"http://c/1\",\"title\":{\"en\":\"C\"},\"children\":[{\"kind\":\"unit\",\"id\":\"http://c/u\",\"title\":{\"en\":\"U\"},\"url\":\"http://a/endpoint?actor%20=1\"}]}",
+    "{\"id\":\"http://c/1\",\"title\":{\"en\":\"C\"},\"children\":[{\"kind\":\"unit\",\"id\":\"http://c/u\",\"title\":{\"en\":\"U\"},\"url\":\"http://a/u?x=&&=\"}]}",
+    "{\"id\":\"http://c/1\",\"title\":{\"en\":\"C\"},\"children\":[{\"kind\":\"unit\",\"id\":\"http://c/u\",\"title\":{\"en\":\"U\"},\"url\":\"http://a/u\"},{\"kind\":\"unit\",\"id\":\"http://c/U\",\"title\":{\"en\":\"U\"},\"url\":\"http://a/u\"}]}",
+    "{\"id\":\"http://c/1\",\"title\":{\"en\":\"C\"},\"children\":[{\"kind\":\"unit\",\"id\":\"http://c/u\",\"title\":{\"en\":\"U\"},\"url\":\"http://a/u\"},{\"kind\":\"unit\",\"id\":\"http://c/u/\",\"title\":{\"en\":\"U\"},\"url\":\"http://a/u\"}]}",
+];
+
+#[test]
+fn courses_at_the_edge_of_a_rule_meet_it(rt: HostRuntime) -> Result<(), Fail> {
+    let alloc = rt.alloc();
+    for (i, text) in LAWFUL.iter().enumerate() {
+        if rule_of(alloc, text)?.is_some() {
+            return wrong_row(i);
+        }
+    }
+    Ok(())
+}
+
+// Courses that break one rule.
+const BROKEN: [(u8, &str); 97] = [
+    (1, "null"),
+    (1, "[]"),
+    (1, "\"http://c/1\""),
+    (1, "{}"),
+    (
+        1,
+        "{\"title\":{\"en\":\"C\"},\"children\":[{\"kind\":\"unit\",\"id\":\"http://c/u\",\"title\":{\"en\":\"U\"},\"url\":\"http://a/u\"}]}",
+    ),
+    (
+        1,
+        "{\"id\":\"http://c/1\",\"children\":[{\"kind\":\"unit\",\"id\":\"http://c/u\",\"title\":{\"en\":\"U\"},\"url\":\"http://a/u\"}]}",
+    ),
+    (1, "{\"id\":\"http://c/1\",\"title\":{\"en\":\"C\"}}"),
+    (
+        1,
+        "{\"id\":\"http://c/1\",\"title\":{\"en\":\"C\"},\"kind\":\"block\",\"children\":[{\"kind\":\"unit\",\"id\":\"http://c/u\",\"title\":{\"en\":\"U\"},\"url\":\"http://a/u\"}]}",
+    ),
+    (
+        1,
+        "{\"id\":\"http://c/1\",\"title\":{\"en\":\"C\"},\"url\":\"http://a/u\",\"children\":[{\"kind\":\"unit\",\"id\":\"http://c/u\",\"title\":{\"en\":\"U\"},\"url\":\"http://a/u\"}]}",
+    ),
+    (
+        2,
+        "{\"id\":\"http://c/1\",\"title\":{\"en\":\"C\"},\"children\":[5]}",
+    ),
+    (
+        2,
+        "{\"id\":\"http://c/1\",\"title\":{\"en\":\"C\"},\"children\":[null]}",
+    ),
+    (
+        2,
+        "{\"id\":\"http://c/1\",\"title\":{\"en\":\"C\"},\"children\":[[{\"kind\":\"unit\",\"id\":\"http://c/u\",\"title\":{\"en\":\"U\"},\"url\":\"http://a/u\"}]]}",
+    ),
+    (
+        2,
+        "{\"id\":\"http://c/1\",\"title\":{\"en\":\"C\"},\"children\":[{}]}",
+    ),
+    (
+        2,
+        "{\"id\":\"http://c/1\",\"title\":{\"en\":\"C\"},\"children\":[{\"id\":\"http://c/u\",\"title\":{\"en\":\"U\"},\"url\":\"http://a/u\"}]}",
+    ),
+    (
+        2,
+        "{\"id\":\"http://c/1\",\"title\":{\"en\":\"C\"},\"children\":[{\"kind\":\"Unit\",\"id\":\"http://c/u\",\"title\":{\"en\":\"U\"},\"url\":\"http://a/u\"}]}",
+    ),
+    (
+        2,
+        "{\"id\":\"http://c/1\",\"title\":{\"en\":\"C\"},\"children\":[{\"kind\":\"course\",\"id\":\"http://c/b\",\"title\":{\"en\":\"U\"},\"children\":[{\"kind\":\"unit\",\"id\":\"http://c/u\",\"title\":{\"en\":\"U\"},\"url\":\"http://a/u\"}]}]}",
+    ),
+    (
+        2,
+        "{\"id\":\"http://c/1\",\"title\":{\"en\":\"C\"},\"children\":[{\"kind\":5,\"id\":\"http://c/u\",\"title\":{\"en\":\"U\"},\"url\":\"http://a/u\"}]}",
+    ),
+    (
+        2,
+        "{\"id\":\"http://c/1\",\"title\":{\"en\":\"C\"},\"children\":[{\"kind\":\"unit\",\"title\":{\"en\":\"U\"},\"url\":\"http://a/u\"}]}",
+    ),
+    (
+        2,
+        "{\"id\":\"http://c/1\",\"title\":{\"en\":\"C\"},\"children\":[{\"kind\":\"unit\",\"id\":\"http://c/u\",\"url\":\"http://a/u\"}]}",
+    ),
+    (
+        2,
+        "{\"id\":\"http://c/1\",\"title\":{\"en\":\"C\"},\"children\":[{\"kind\":\"unit\",\"id\":\"http://c/u\",\"title\":{\"en\":\"U\"}}]}",
+    ),
+    (
+        2,
+        "{\"id\":\"http://c/1\",\"title\":{\"en\":\"C\"},\"children\":[{\"kind\":\"block\",\"title\":{\"en\":\"U\"},\"children\":[{\"kind\":\"unit\",\"id\":\"http://c/u\",\"title\":{\"en\":\"U\"},\"url\":\"http://a/u\"}]}]}",
+    ),
+    (
+        2,
+        "{\"id\":\"http://c/1\",\"title\":{\"en\":\"C\"},\"children\":[{\"kind\":\"block\",\"id\":\"http://c/b\",\"children\":[{\"kind\":\"unit\",\"id\":\"http://c/u\",\"title\":{\"en\":\"U\"},\"url\":\"http://a/u\"}]}]}",
+    ),
+    (
+        2,
+        "{\"id\":\"http://c/1\",\"title\":{\"en\":\"C\"},\"children\":[{\"kind\":\"block\",\"id\":\"http://c/b\",\"title\":{\"en\":\"B\"}}]}",
+    ),
+    (
+        2,
+        "{\"id\":\"http://c/1\",\"title\":{\"en\":\"C\"},\"children\":[{\"kind\":\"block\",\"id\":\"http://c/b\",\"title\":{\"en\":\"B\"},\"url\":\"http://a/b\",\"children\":[{\"kind\":\"unit\",\"id\":\"http://c/u\",\"title\":{\"en\":\"U\"},\"url\":\"http://a/u\"}]}]}",
+    ),
+    (
+        2,
+        "{\"id\":\"http://c/1\",\"title\":{\"en\":\"C\"},\"children\":[{\"kind\":\"unit\",\"id\":\"http://c/u\",\"title\":{\"en\":\"U\"},\"url\":\"http://a/u\",\"children\":[{\"kind\":\"unit\",\"id\":\"http://c/v\",\"title\":{\"en\":\"U\"},\"url\":\"http://a/u\"}]}]}",
+    ),
+    (
+        2,
+        "{\"id\":\"http://c/1\",\"title\":{\"en\":\"C\"},\"children\":[{\"kind\":\"unit\",\"id\":\"http://c/u\",\"title\":{\"en\":\"U\"},\"url\":\"http://a/u\",\"masteryscore\":1}]}",
+    ),
+    (
+        2,
+        "{\"id\":\"http://c/1\",\"title\":{\"en\":\"C\"},\"children\":[{\"kind\":\"block\",\"id\":\"http://c/b\",\"title\":{\"en\":\"B\"},\"children\":[{\"kind\":\"block\",\"id\":\"http://c/d\",\"title\":{\"en\":\"B\"},\"children\":[7]}]}]}",
+    ),
+    (
+        2,
+        "{\"id\":\"http://c/1\",\"title\":{\"en\":\"C\"},\"children\":[{\"kind\":\"unit\",\"id\":\"http://c/u\",\"title\":{\"en\":\"U\"},\"url\":\"http://a/u\"},{\"kind\":\"unit\"}]}",
+    ),
+    (
+        3,
+        "{\"id\":\"c\",\"title\":{\"en\":\"C\"},\"children\":[{\"kind\":\"unit\",\"id\":\"http://c/u\",\"title\":{\"en\":\"U\"},\"url\":\"http://a/u\"}]}",
+    ),
+    (
+        3,
+        "{\"id\":5,\"title\":{\"en\":\"C\"},\"children\":[{\"kind\":\"unit\",\"id\":\"http://c/u\",\"title\":{\"en\":\"U\"},\"url\":\"http://a/u\"}]}",
+    ),
+    (
+        3,
+        "{\"id\":\"http://c/1\",\"title\":{\"en\":\"C\"},\"children\":[{\"kind\":\"unit\",\"id\":\"http://c/ u\",\"title\":{\"en\":\"U\"},\"url\":\"http://a/u\"}]}",
+    ),
+    (
+        3,
+        "{\"id\":\"http://c/1\",\"title\":{\"en\":\"C\"},\"children\":[{\"kind\":\"unit\",\"id\":null,\"title\":{\"en\":\"U\"},\"url\":\"http://a/u\"}]}",
+    ),
+    (
+        3,
+        "{\"id\":\"http://c/1\",\"title\":{\"en\":\"C\"},\"children\":[{\"kind\":\"block\",\"id\":\"http:\",\"title\":{\"en\":\"B\"},\"children\":[{\"kind\":\"unit\",\"id\":\"http://c/u\",\"title\":{\"en\":\"U\"},\"url\":\"http://a/u\"}]}]}",
+    ),
+    (
+        4,
+        "{\"id\":\"http://c/1\",\"title\":{},\"children\":[{\"kind\":\"unit\",\"id\":\"http://c/u\",\"title\":{\"en\":\"U\"},\"url\":\"http://a/u\"}]}",
+    ),
+    (
+        4,
+        "{\"id\":\"http://c/1\",\"title\":\"C\",\"children\":[{\"kind\":\"unit\",\"id\":\"http://c/u\",\"title\":{\"en\":\"U\"},\"url\":\"http://a/u\"}]}",
+    ),
+    (
+        4,
+        "{\"id\":\"http://c/1\",\"title\":{\"en\":\"C\"},\"description\":{},\"children\":[{\"kind\":\"unit\",\"id\":\"http://c/u\",\"title\":{\"en\":\"U\"},\"url\":\"http://a/u\"}]}",
+    ),
+    (
+        4,
+        "{\"id\":\"http://c/1\",\"title\":{\"en\":\"C\"},\"children\":[{\"kind\":\"unit\",\"id\":\"http://c/u\",\"title\":{\"en\":5},\"url\":\"http://a/u\"}]}",
+    ),
+    (
+        4,
+        "{\"id\":\"http://c/1\",\"title\":{\"en\":\"C\"},\"children\":[{\"kind\":\"unit\",\"id\":\"http://c/u\",\"title\":{\"e_n\":\"U\"},\"url\":\"http://a/u\"}]}",
+    ),
+    (
+        4,
+        "{\"id\":\"http://c/1\",\"title\":{\"en\":\"C\"},\"children\":[{\"kind\":\"unit\",\"id\":\"http://c/u\",\"title\":{\"en\":\"U\"},\"url\":\"http://a/u\",\"description\":null}]}",
+    ),
+    (
+        4,
+        "{\"id\":\"http://c/1\",\"title\":{\"en\":\"C\"},\"children\":[{\"kind\":\"block\",\"id\":\"http://c/b\",\"title\":{\"en\":\"B\"},\"description\":[],\"children\":[{\"kind\":\"unit\",\"id\":\"http://c/u\",\"title\":{\"en\":\"U\"},\"url\":\"http://a/u\"}]}]}",
+    ),
+    (
+        5,
+        "{\"id\":\"http://c/1\",\"title\":{\"en\":\"C\"},\"children\":[]}",
+    ),
+    (
+        5,
+        "{\"id\":\"http://c/1\",\"title\":{\"en\":\"C\"},\"children\":{}}",
+    ),
+    (
+        5,
+        "{\"id\":\"http://c/1\",\"title\":{\"en\":\"C\"},\"children\":null}",
+    ),
+    (
+        5,
+        "{\"id\":\"http://c/1\",\"title\":{\"en\":\"C\"},\"children\":[{\"kind\":\"block\",\"id\":\"http://c/b\",\"title\":{\"en\":\"B\"},\"children\":[]}]}",
+    ),
+    (
+        5,
+        "{\"id\":\"http://c/1\",\"title\":{\"en\":\"C\"},\"children\":[{\"kind\":\"unit\",\"id\":\"http://c/u\",\"title\":{\"en\":\"U\"},\"url\":\"http://a/u\"},{\"kind\":\"block\",\"id\":\"http://c/b\",\"title\":{\"en\":\"B\"},\"children\":[]}]}",
+    ),
+    (
+        5,
+        "{\"id\":\"http://c/1\",\"title\":{\"en\":\"C\"},\"children\":[{\"kind\":\"block\",\"id\":\"http://c/b\",\"title\":{\"en\":\"B\"},\"children\":{\"kind\":\"unit\",\"id\":\"http://c/v\",\"title\":{\"en\":\"U\"},\"url\":\"http://a/u\"}}]}",
+    ),
+    (
+        6,
+        "{\"id\":\"http://c/1\",\"title\":{\"en\":\"C\"},\"children\":[{\"kind\":\"unit\",\"id\":\"http://c/u\",\"title\":{\"en\":\"U\"},\"url\":\"http://a/u\"},{\"kind\":\"unit\",\"id\":\"http://c/u\",\"title\":{\"en\":\"U\"},\"url\":\"http://a/u\"}]}",
+    ),
+    (
+        6,
+        "{\"id\":\"http://c/1\",\"title\":{\"en\":\"C\"},\"children\":[{\"kind\":\"block\",\"id\":\"http://c/b\",\"title\":{\"en\":\"B\"},\"children\":[{\"kind\":\"unit\",\"id\":\"http://c/u\",\"title\":{\"en\":\"U\"},\"url\":\"http://a/u\"}]},{\"kind\":\"unit\",\"id\":\"http://c/u\",\"title\":{\"en\":\"U\"},\"url\":\"http://a/u\"}]}",
+    ),
+    (
+        6,
+        "{\"id\":\"http://c/1\",\"title\":{\"en\":\"C\"},\"children\":[{\"kind\":\"block\",\"id\":\"http://c/u\",\"title\":{\"en\":\"B\"},\"children\":[{\"kind\":\"unit\",\"id\":\"http://c/u\",\"title\":{\"en\":\"U\"},\"url\":\"http://a/u\"}]}]}",
+    ),
+    (
+        6,
+        "{\"id\":\"http://c/1\",\"title\":{\"en\":\"C\"},\"children\":[{\"kind\":\"unit\",\"id\":\"http://c/1\",\"title\":{\"en\":\"U\"},\"url\":\"http://a/u\"}]}",
+    ),
+    (
+        6,
+        "{\"id\":\"http://c/1\",\"title\":{\"en\":\"C\"},\"children\":[{\"kind\":\"block\",\"id\":\"http://c/b\",\"title\":{\"en\":\"B\"},\"children\":[{\"kind\":\"block\",\"id\":\"http://c/b\",\"title\":{\"en\":\"B\"},\"children\":[{\"kind\":\"unit\",\"id\":\"http://c/u\",\"title\":{\"en\":\"U\"},\"url\":\"http://a/u\"}]}]}]}",
+    ),
+    (
+        6,
+        "{\"id\":\"http://c/1\",\"title\":{\"en\":\"C\"},\"children\":[{\"kind\":\"block\",\"id\":\"http://c/1\",\"title\":{\"en\":\"B\"},\"children\":[{\"kind\":\"unit\",\"id\":\"http://c/u\",\"title\":{\"en\":\"U\"},\"url\":\"http://a/u\"}]}]}",
+    ),
+    (
+        6,
+        "{\"id\":\"http://c/1\",\"title\":{\"en\":\"C\"},\"children\":[{\"kind\":\"block\",\"id\":\"http://c/b\",\"title\":{\"en\":\"B\"},\"children\":[{\"kind\":\"unit\",\"id\":\"http://c/u\",\"title\":{\"en\":\"U\"},\"url\":\"http://a/u\"}]},{\"kind\":\"block\",\"id\":\"http://c/b\",\"title\":{\"en\":\"B\"},\"children\":[{\"kind\":\"unit\",\"id\":\"http://c/v\",\"title\":{\"en\":\"U\"},\"url\":\"http://a/u\"}]}]}",
+    ),
+    (
+        7,
+        "{\"id\":\"http://c/1\",\"title\":{\"en\":\"C\"},\"children\":[{\"kind\":\"unit\",\"id\":\"http://c/u\",\"title\":{\"en\":\"U\"},\"url\":\"http://a/u\",\"moveOn\":\"passed\"}]}",
+    ),
+    (
+        7,
+        "{\"id\":\"http://c/1\",\"title\":{\"en\":\"C\"},\"children\":[{\"kind\":\"unit\",\"id\":\"http://c/u\",\"title\":{\"en\":\"U\"},\"url\":\"http://a/u\",\"moveOn\":\"\"}]}",
+    ),
+    (
+        7,
+        "{\"id\":\"http://c/1\",\"title\":{\"en\":\"C\"},\"children\":[{\"kind\":\"unit\",\"id\":\"http://c/u\",\"title\":{\"en\":\"U\"},\"url\":\"http://a/u\",\"moveOn\":5}]}",
+    ),
+    (
+        7,
+        "{\"id\":\"http://c/1\",\"title\":{\"en\":\"C\"},\"children\":[{\"kind\":\"unit\",\"id\":\"http://c/u\",\"title\":{\"en\":\"U\"},\"url\":\"http://a/u\",\"moveOn\":null}]}",
+    ),
+    (
+        7,
+        "{\"id\":\"http://c/1\",\"title\":{\"en\":\"C\"},\"children\":[{\"kind\":\"unit\",\"id\":\"http://c/u\",\"title\":{\"en\":\"U\"},\"url\":\"http://a/u\",\"moveOn\":\"Failed\"}]}",
+    ),
+    (
+        7,
+        "{\"id\":\"http://c/1\",\"title\":{\"en\":\"C\"},\"children\":[{\"kind\":\"unit\",\"id\":\"http://c/u\",\"title\":{\"en\":\"U\"},\"url\":\"http://a/u\",\"moveOn\":[\"Passed\"]}]}",
+    ),
+    (
+        8,
+        "{\"id\":\"http://c/1\",\"title\":{\"en\":\"C\"},\"children\":[{\"kind\":\"unit\",\"id\":\"http://c/u\",\"title\":{\"en\":\"U\"},\"url\":\"http://a/u\",\"masteryScore\":1.0001}]}",
+    ),
+    (
+        8,
+        "{\"id\":\"http://c/1\",\"title\":{\"en\":\"C\"},\"children\":[{\"kind\":\"unit\",\"id\":\"http://c/u\",\"title\":{\"en\":\"U\"},\"url\":\"http://a/u\",\"masteryScore\":-0.1}]}",
+    ),
+    (
+        8,
+        "{\"id\":\"http://c/1\",\"title\":{\"en\":\"C\"},\"children\":[{\"kind\":\"unit\",\"id\":\"http://c/u\",\"title\":{\"en\":\"U\"},\"url\":\"http://a/u\",\"masteryScore\":\"0.5\"}]}",
+    ),
+    (
+        8,
+        "{\"id\":\"http://c/1\",\"title\":{\"en\":\"C\"},\"children\":[{\"kind\":\"unit\",\"id\":\"http://c/u\",\"title\":{\"en\":\"U\"},\"url\":\"http://a/u\",\"masteryScore\":null}]}",
+    ),
+    (
+        8,
+        "{\"id\":\"http://c/1\",\"title\":{\"en\":\"C\"},\"children\":[{\"kind\":\"unit\",\"id\":\"http://c/u\",\"title\":{\"en\":\"U\"},\"url\":\"http://a/u\",\"masteryScore\":1e1}]}",
+    ),
+    (
+        8,
+        "{\"id\":\"http://c/1\",\"title\":{\"en\":\"C\"},\"children\":[{\"kind\":\"unit\",\"id\":\"http://c/u\",\"title\":{\"en\":\"U\"},\"url\":\"http://a/u\",\"masteryScore\":-1e-999}]}",
+    ),
+    (
+        8,
+        "{\"id\":\"http://c/1\",\"title\":{\"en\":\"C\"},\"children\":[{\"kind\":\"unit\",\"id\":\"http://c/u\",\"title\":{\"en\":\"U\"},\"url\":\"http://a/u\",\"masteryScore\":true}]}",
+    ),
+    (
+        8,
+        "{\"id\":\"http://c/1\",\"title\":{\"en\":\"C\"},\"children\":[{\"kind\":\"unit\",\"id\":\"http://c/u\",\"title\":{\"en\":\"U\"},\"url\":\"http://a/u\",\"masteryScore\":[1]}]}",
+    ),
+    (
+        9,
+        "{\"id\":\"http://c/1\",\"title\":{\"en\":\"C\"},\"children\":[{\"kind\":\"unit\",\"id\":\"http://c/u\",\"title\":{\"en\":\"U\"},\"url\":\"http://a/u\",\"launchMethod\":\"ownWindow\"}]}",
+    ),
+    (
+        9,
+        "{\"id\":\"http://c/1\",\"title\":{\"en\":\"C\"},\"children\":[{\"kind\":\"unit\",\"id\":\"http://c/u\",\"title\":{\"en\":\"U\"},\"url\":\"http://a/u\",\"launchMethod\":\"\"}]}",
+    ),
+    (
+        9,
+        "{\"id\":\"http://c/1\",\"title\":{\"en\":\"C\"},\"children\":[{\"kind\":\"unit\",\"id\":\"http://c/u\",\"title\":{\"en\":\"U\"},\"url\":\"http://a/u\",\"launchMethod\":1}]}",
+    ),
+    (
+        9,
+        "{\"id\":\"http://c/1\",\"title\":{\"en\":\"C\"},\"children\":[{\"kind\":\"unit\",\"id\":\"http://c/u\",\"title\":{\"en\":\"U\"},\"url\":\"http://a/u\",\"launchMethod\":null}]}",
+    ),
+    (
+        10,
+        "{\"id\":\"http://c/1\",\"title\":{\"en\":\"C\"},\"children\":[{\"kind\":\"unit\",\"id\":\"http://c/u\",\"title\":{\"en\":\"U\"},\"url\":5}]}",
+    ),
+    (
+        10,
+        "{\"id\":\"http://c/1\",\"title\":{\"en\":\"C\"},\"children\":[{\"kind\":\"unit\",\"id\":\"http://c/u\",\"title\":{\"en\":\"U\"},\"url\":null}]}",
+    ),
+    (
+        10,
+        "{\"id\":\"http://c/1\",\"title\":{\"en\":\"C\"},\"children\":[{\"kind\":\"unit\",\"id\":\"http://c/u\",\"title\":{\"en\":\"U\"},\"url\":\"\"}]}",
+    ),
+    (
+        10,
+        "{\"id\":\"http://c/1\",\"title\":{\"en\":\"C\"},\"children\":[{\"kind\":\"unit\",\"id\":\"http://c/u\",\"title\":{\"en\":\"U\"},\"url\":\"/u\"}]}",
+    ),
+    (
+        10,
+        "{\"id\":\"http://c/1\",\"title\":{\"en\":\"C\"},\"children\":[{\"kind\":\"unit\",\"id\":\"http://c/u\",\"title\":{\"en\":\"U\"},\"url\":\"a/u\"}]}",
+    ),
+    (
+        10,
+        "{\"id\":\"http://c/1\",\"title\":{\"en\":\"C\"},\"children\":[{\"kind\":\"unit\",\"id\":\"http://c/u\",\"title\":{\"en\":\"U\"},\"url\":\"ftp://a/u\"}]}",
+    ),
+    (
+        10,
+        "{\"id\":\"http://c/1\",\"title\":{\"en\":\"C\"},\"children\":[{\"kind\":\"unit\",\"id\":\"http://c/u\",\"title\":{\"en\":\"U\"},\"url\":\"mailto:a@b\"}]}",
+    ),
+    (
+        10,
+        "{\"id\":\"http://c/1\",\"title\":{\"en\":\"C\"},\"children\":[{\"kind\":\"unit\",\"id\":\"http://c/u\",\"title\":{\"en\":\"U\"},\"url\":\"file:///u\"}]}",
+    ),
+    (
+        10,
+        "{\"id\":\"http://c/1\",\"title\":{\"en\":\"C\"},\"children\":[{\"kind\":\"unit\",\"id\":\"http://c/u\",\"title\":{\"en\":\"U\"},\"url\":\"http://\"}]}",
+    ),
+    (
+        10,
+        "{\"id\":\"http://c/1\",\"title\":{\"en\":\"C\"},\"children\":[{\"kind\":\"unit\",\"id\":\"http://c/u\",\"title\":{\"en\":\"U\"},\"url\":\"http://a b/u\"}]}",
+    ),
+    (
+        10,
+        "{\"id\":\"http://c/1\",\"title\":{\"en\":\"C\"},\"children\":[{\"kind\":\"unit\",\"id\":\"http://c/u\",\"title\":{\"en\":\"U\"},\"url\":\"https://a:99999/\"}]}",
+    ),
+    (
+        10,
+        "{\"id\":\"http://c/1\",\"title\":{\"en\":\"C\"},\"children\":[{\"kind\":\"unit\",\"id\":\"http://c/u\",\"title\":{\"en\":\"U\"},\"url\":\"http://a/u?endpoint=x\"}]}",
+    ),
+    (
+        10,
+        "{\"id\":\"http://c/1\",\"title\":{\"en\":\"C\"},\"children\":[{\"kind\":\"unit\",\"id\":\"http://c/u\",\"title\":{\"en\":\"U\"},\"url\":\"http://a/u?fetch=x\"}]}",
+    ),
+    (
+        10,
+        "{\"id\":\"http://c/1\",\"title\":{\"en\":\"C\"},\"children\":[{\"kind\":\"unit\",\"id\":\"http://c/u\",\"title\":{\"en\":\"U\"},\"url\":\"http://a/u?actor=x\"}]}",
+    ),
+    (
+        10,
+        "{\"id\":\"http://c/1\",\"title\":{\"en\":\"C\"},\"children\":[{\"kind\":\"unit\",\"id\":\"http://c/u\",\"title\":{\"en\":\"U\"},\"url\":\"http://a/u?registration=x\"}]}",
+    ),
+    (
+        10,
+        "{\"id\":\"http://c/1\",\"title\":{\"en\":\"C\"},\"children\":[{\"kind\":\"unit\",\"id\":\"http://c/u\",\"title\":{\"en\":\"U\"},\"url\":\"http://a/u?activityId=x\"}]}",
+    ),
+    (
+        10,
+        "{\"id\":\"http://c/1\",\"title\":{\"en\":\"C\"},\"children\":[{\"kind\":\"unit\",\"id\":\"http://c/u\",\"title\":{\"en\":\"U\"},\"url\":\"http://a/u?endpoint\"}]}",
+    ),
+    (
+        10,
+        "{\"id\":\"http://c/1\",\"title\":{\"en\":\"C\"},\"children\":[{\"kind\":\"unit\",\"id\":\"http://c/u\",\"title\":{\"en\":\"U\"},\"url\":\"http://a/u?x=1&fetch=\"}]}",
+    ),
+    (
+        10,
+        "{\"id\":\"http://c/1\",\"title\":{\"en\":\"C\"},\"children\":[{\"kind\":\"unit\",\"id\":\"http://c/u\",\"title\":{\"en\":\"U\"},\"url\":\"http://a/u?%65ndpoint=1\"}]}",
+    ),
+    (
+        10,
+        "{\"id\":\"http://c/1\",\"title\":{\"en\":\"C\"},\"children\":[{\"kind\":\"unit\",\"id\":\"http://c/u\",\"title\":{\"en\":\"U\"},\"url\":\"http://a/u?x&activity%49d=1#f\"}]}",
+    ),
+    (
+        10,
+        "{\"id\":\"http://c/1\",\"title\":{\"en\":\"C\"},\"children\":[{\"kind\":\"unit\",\"id\":\"http://c/u\",\"title\":{\"en\":\"U\"},\"url\":\"http://a/u?&actor\"}]}",
+    ),
+    (
+        11,
+        "{\"id\":\"http://c/1\",\"title\":{\"en\":\"C\"},\"children\":[{\"kind\":\"unit\",\"id\":\"http://c/u\",\"title\":{\"en\":\"U\"},\"url\":\"http://a/u\",\"launchParameters\":5}]}",
+    ),
+    (
+        11,
+        "{\"id\":\"http://c/1\",\"title\":{\"en\":\"C\"},\"children\":[{\"kind\":\"unit\",\"id\":\"http://c/u\",\"title\":{\"en\":\"U\"},\"url\":\"http://a/u\",\"launchParameters\":null}]}",
+    ),
+    (
+        11,
+        "{\"id\":\"http://c/1\",\"title\":{\"en\":\"C\"},\"children\":[{\"kind\":\"unit\",\"id\":\"http://c/u\",\"title\":{\"en\":\"U\"},\"url\":\"http://a/u\",\"entitlementKey\":{}}]}",
+    ),
+    (
+        11,
+        "{\"id\":\"http://c/1\",\"title\":{\"en\":\"C\"},\"children\":[{\"kind\":\"unit\",\"id\":\"http://c/u\",\"title\":{\"en\":\"U\"},\"url\":\"http://a/u\",\"activityType\":\"x\"}]}",
+    ),
+    (
+        11,
+        "{\"id\":\"http://c/1\",\"title\":{\"en\":\"C\"},\"children\":[{\"kind\":\"unit\",\"id\":\"http://c/u\",\"title\":{\"en\":\"U\"},\"url\":\"http://a/u\",\"activityType\":5}]}",
+    ),
+];
+
+#[test]
+fn each_rule_is_broken_alone(rt: HostRuntime) -> Result<(), Fail> {
+    check_rules(rt.alloc(), &BROKEN)
+}
+
+// Courses that break two rules or more.
+const PAIRS: [(u8, &str); 13] = [
+    (1, "{\"id\":\"http://c/1\",\"children\":[5]}"),
+    (
+        2,
+        "{\"id\":\"http://c/1\",\"title\":{\"en\":\"C\"},\"children\":[{\"kind\":\"unit\",\"id\":\"x\",\"title\":{\"en\":\"U\"},\"url\":\"http://a/u\",\"more\":1}]}",
+    ),
+    (
+        3,
+        "{\"id\":\"http://c/1\",\"title\":{\"en\":\"C\"},\"children\":[{\"kind\":\"unit\",\"id\":\"x\",\"title\":{},\"url\":\"http://a/u\"}]}",
+    ),
+    (
+        4,
+        "{\"id\":\"http://c/1\",\"title\":{\"en\":\"C\"},\"children\":[{\"kind\":\"unit\",\"id\":\"http://c/u\",\"title\":{\"en\":\"U\"},\"url\":\"http://a/u\",\"description\":{}},{\"kind\":\"block\",\"id\":\"http://c/b\",\"title\":{\"en\":\"B\"},\"children\":[]}]}",
+    ),
+    (
+        5,
+        "{\"id\":\"http://c/1\",\"title\":{\"en\":\"C\"},\"children\":[{\"kind\":\"block\",\"id\":\"http://c/1\",\"title\":{\"en\":\"B\"},\"children\":[]}]}",
+    ),
+    (
+        6,
+        "{\"id\":\"http://c/1\",\"title\":{\"en\":\"C\"},\"children\":[{\"kind\":\"unit\",\"id\":\"http://c/u\",\"title\":{\"en\":\"U\"},\"url\":\"http://a/u\"},{\"kind\":\"unit\",\"id\":\"http://c/u\",\"title\":{\"en\":\"U\"},\"url\":\"http://a/u\",\"moveOn\":\"x\"}]}",
+    ),
+    (
+        7,
+        "{\"id\":\"http://c/1\",\"title\":{\"en\":\"C\"},\"children\":[{\"kind\":\"unit\",\"id\":\"http://c/u\",\"title\":{\"en\":\"U\"},\"url\":\"http://a/u\",\"masteryScore\":2,\"moveOn\":\"x\"}]}",
+    ),
+    (
+        8,
+        "{\"id\":\"http://c/1\",\"title\":{\"en\":\"C\"},\"children\":[{\"kind\":\"unit\",\"id\":\"http://c/u\",\"title\":{\"en\":\"U\"},\"url\":\"http://a/u\",\"launchMethod\":\"x\",\"masteryScore\":2}]}",
+    ),
+    (
+        9,
+        "{\"id\":\"http://c/1\",\"title\":{\"en\":\"C\"},\"children\":[{\"kind\":\"unit\",\"id\":\"http://c/u\",\"title\":{\"en\":\"U\"},\"url\":\"x\",\"launchMethod\":\"x\"}]}",
+    ),
+    (
+        10,
+        "{\"id\":\"http://c/1\",\"title\":{\"en\":\"C\"},\"children\":[{\"kind\":\"unit\",\"id\":\"http://c/u\",\"title\":{\"en\":\"U\"},\"url\":\"x\",\"activityType\":\"x\"}]}",
+    ),
+    (
+        2,
+        "{\"id\":\"x\",\"title\":{},\"children\":[{\"kind\":\"unit\"}]}",
+    ),
+    (
+        4,
+        "{\"id\":\"http://c/1\",\"title\":{},\"children\":[{\"kind\":\"unit\",\"id\":\"http://c/u\",\"title\":{\"en\":\"U\"},\"url\":\"x\"}]}",
+    ),
+    (
+        3,
+        "{\"id\":\"http://c/1\",\"title\":{\"en\":\"C\"},\"children\":[{\"kind\":\"unit\",\"id\":\"http://c/u\",\"title\":{\"en\":\"U\"},\"url\":\"http://a/u\"},{\"kind\":\"unit\",\"id\":\"x\",\"title\":{\"en\":\"U\"},\"url\":\"http://a/u\"},{\"kind\":\"unit\",\"id\":\"http://c/w\",\"title\":{\"en\":\"U\"},\"url\":1}]}",
+    ),
+];
+
+#[test]
+fn the_least_broken_rule_is_named(rt: HostRuntime) -> Result<(), Fail> {
+    check_rules(rt.alloc(), &PAIRS)
+}

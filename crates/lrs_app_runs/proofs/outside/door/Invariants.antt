@@ -1,7 +1,0 @@
-use Rattle.std.proofs.Common.{All}
-use Rattle.lrs_in_memory_doors.specs.MemLink.{IsUnusedLink}
-use Rattle.lrs_app_runs.proofs.outside.door.Given as goal
-
--- no link was used so far
-abbrev pub invariant-loop-stream : goal.invariant-loop-stream
-invariant-loop-stream l = All IsUnusedLink l.links.items

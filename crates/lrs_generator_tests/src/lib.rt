@@ -1,5 +1,0 @@
-//! The tests of lrs_generator.
-#![tactic(auto)]
-
-#[cfg(test)]
-mod tests;

@@ -1,5 +1,0 @@
-//! The tests of lrs_journal.
-#![tactic(auto)]
-
-#[cfg(test)]
-mod tests;

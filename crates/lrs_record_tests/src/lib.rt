@@ -1,5 +1,0 @@
-//! The tests of lrs_record.
-#![tactic(auto)]
-
-#[cfg(test)]
-mod entries;

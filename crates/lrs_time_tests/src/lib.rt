@@ -1,5 +1,0 @@
-//! The tests of lrs_time.
-#![tactic(auto)]
-
-#[cfg(test)]
-mod tests;

@@ -1,5 +1,0 @@
-//! The tests of lrs_turn.
-#![tactic(auto)]
-
-#[cfg(test)]
-mod tests;

@@ -1,0 +1,3 @@
+// The tests of xapi_docs.
+mod documents;
+mod merging;

@@ -1,0 +1,3 @@
+// The tests of lrs_http.
+mod requests;
+mod responses;

@@ -1,5 +1,0 @@
-//! The tests of xapi_statement.
-#![tactic(auto)]
-
-#[cfg(test)]
-mod tests;

@@ -1,5 +1,0 @@
-//! The tests of xapi_values.
-#![tactic(auto)]
-
-#[cfg(test)]
-mod tests;
