@@ -10,3 +10,4 @@ pub mod Loads
 pub mod Serving
 pub mod Alone
 pub mod Served
+pub mod Due

@@ -212,9 +212,11 @@ module _ {S D B E L I O : Type 0} (d : disks.Ghosts D) (s : shelves.Ghosts S D) 
         let left = init_left taken admin base limit clock from does in (
           clock,
           done.ending,
-          one_step clock reads doors left.1,
-          subst (λ (x : Option D). InitLeaves d file admin base limit clock before after x ended.report.length done.ending) (sym same_disk)
-              (subst (λ (r : Report). InitLeaves d file admin base limit clock before after done.disk r.length done.ending) (sym same_report) left.0),
+          (
+            one_step clock reads doors left.1,
+            subst (λ (x : Option D). InitLeaves d file admin base limit clock before after x ended.report.length done.ending) (sym same_disk)
+                (subst (λ (r : Report). InitLeaves d file admin base limit clock before after done.disk r.length done.ending) (sym same_report) left.0),
+          ),
         )
 
     pub intake_runs : (taken : Result D Failed) (clock : ℕ) (draw : Draw) → ReadsOnce clock before after → SparesDoors before after
@@ -224,9 +226,11 @@ module _ {S D B E L I O : Type 0} (d : disks.Ghosts D) (s : shelves.Ghosts S D) 
         let left = intake_left taken clock draw from does in (
           clock,
           done.ending,
-          one_step clock reads doors left.1,
-          subst (λ (x : Option D). IntakeLeaves d file clock draw before after x ended.report.length done.ending) (sym same_disk)
-              (subst (λ (r : Report). IntakeLeaves d file clock draw before after done.disk r.length done.ending) (sym same_report) left.0),
+          (
+            one_step clock reads doors left.1,
+            subst (λ (x : Option D). IntakeLeaves d file clock draw before after x ended.report.length done.ending) (sym same_disk)
+                (subst (λ (r : Report). IntakeLeaves d file clock draw before after done.disk r.length done.ending) (sym same_report) left.0),
+          ),
         )
 
     pub load_runs : (taken : Result D Failed) (seed count : ℕ) (draws : Draws) → SparesDoors before after
@@ -236,13 +240,15 @@ module _ {S D B E L I O : Type 0} (d : disks.Ghosts D) (s : shelves.Ghosts S D) 
         let left = load_left taken seed count draws from does in (
           left.0,
           done.ending,
-          left.1,
-          takes,
-          doors,
-          (ap (λ (r : Report). r.talks) same_report ∙ left.3.0, ap (λ (r : Report). r.responses) same_report ∙ left.3.1),
-          subst (λ (x : Option D). LoadLeaves d file seed count draws left.0 before after x ended.report.length done.ending) (sym same_disk)
-              (subst (λ (r : Report). LoadLeaves d file seed count draws left.0 before after done.disk r.length done.ending) (sym same_report) left.2),
-          prints,
+          (
+            left.1,
+            takes,
+            doors,
+            (ap (λ (r : Report). r.talks) same_report ∙ left.3.0, ap (λ (r : Report). r.responses) same_report ∙ left.3.1),
+            subst (λ (x : Option D). LoadLeaves d file seed count draws left.0 before after x ended.report.length done.ending) (sym same_disk)
+                (subst (λ (r : Report). LoadLeaves d file seed count draws left.0 before after done.disk r.length done.ending) (sym same_report) left.2),
+            prints,
+          ),
         )
 
     pub serve_runs : (taken : Result D Failed) (address : List ℕ) (workers connections : ℕ) (seed : List ℕ) → after.readings ≡ before.readings
@@ -251,12 +257,14 @@ module _ {S D B E L I O : Type 0} (d : disks.Ghosts D) (s : shelves.Ghosts S D) 
     serve_runs taken address workers connections seed readings from does =
         let left = serve_left taken address workers connections seed from does in (
           done.ending,
-          readings,
-          takes,
-          subst (λ (r : Report). r.responses ≡ responses_of r.talks) (sym same_report) left.1,
-          subst (λ (x : Option D). ServeLeaves d file address workers connections seed before after x ended.report.talks ended.report.length done.ending) (sym same_disk)
-              (subst (λ (r : Report). ServeLeaves d file address workers connections seed before after done.disk r.talks r.length done.ending) (sym same_report) left.0),
-          prints,
+          (
+            readings,
+            takes,
+            subst (λ (r : Report). r.responses ≡ responses_of r.talks) (sym same_report) left.1,
+            subst (λ (x : Option D). ServeLeaves d file address workers connections seed before after x ended.report.talks ended.report.length done.ending) (sym same_disk)
+                (subst (λ (r : Report). ServeLeaves d file address workers connections seed before after done.disk r.talks r.length done.ending) (sym same_report) left.0),
+            prints,
+          ),
         )
 
 -- the command that was found

@@ -5,7 +5,7 @@ use Rattle.lrs_disk.specs.declared.disk.Disk as disks
 use Rattle.lrs_journal.specs.Journal.{IsSynced, TellsAlike}
 use Rattle.lrs_names.specs.declared.draw.Draw.{Draw}
 use Rattle.lrs_record.specs.declared.entry.Entry.{Entry}
-use Rattle.lrs_hall.specs.LrsMachineDesk.{Desk, IsDeskRefused, IsSameStore, IsStoreOf, OpensOnly, history}
+use Rattle.lrs_hall.specs.LrsMachineDesk.{Desk, IsDeskRefused, IsSameStore, IsStoreOf, OpensOnly, SparesLegal, history}
 use Rattle.lrs_hall.specs.LrsMachineLine.{opened_line}
 use Rattle.lrs_hall.specs.LrsMachineOpeningDeskRefused.{DeskRefused}
 use Rattle.lrs_hall.specs.LrsMachineOpeningDeskRefusedTheVariants as refused
@@ -70,15 +70,16 @@ unopened_stops d first disk refused.Memory bytes told synced opens untouched = (
 -- what is left where no store is opened
 pub leaves_unopened : {D : Type 0} (d : disks.Ghosts D) (first disk : D) (why : DeskRefused) (end : Ending)
     → end ≡ ending_of why → ForSome (d.told first) (λ bytes. IsDeskRefused bytes why) → (why ≢ refused.Failed → d.told disk ≡ d.told first)
-    → ForSome (d.told first) (λ bytes. HoldsAsBefore bytes (d.told disk))
+    → ForSome (d.told first) (λ bytes. HoldsAsBefore bytes (d.told disk)) → ForSome (d.told first) (λ bytes. SparesLegal bytes why)
     → IsSynced d.told d.image first → OpensOnly d.told d.image d.time d.image_since first disk IsSameStore
     → (why ≢ refused.Failed → OpensOnly d.told d.image d.time d.image_since first disk (λ bytes after. after ≡ bytes))
     → d.time first ≤ d.time disk → LeavesUnopened d (taken_now d first) disk 0 end
-leaves_unopened d first disk why end ended is same left synced opens untouched later = record {
+leaves_unopened d first disk why end ended is same left spares synced opens untouched later = record {
   why = why;
   ended = ended;
   counts = refl;
   later = later;
+  spares = if_some (d.told first) (λ bytes. SparesLegal bytes why) spares;
   holds = subst (λ (e : Ending). IfSome (d.told first) (λ bytes. EndsUnopened bytes (d.told disk) e)) (sym ended) (unopened_holds (d.told first) (d.told disk) why is same left);
   stops = λ bytes told. subst (λ (e : Ending). AnyStopLeaves d (taken_now d first) disk (IsSpared e bytes)) (sym ended)
       (unopened_stops d first disk why bytes told synced opens untouched);

@@ -6,7 +6,7 @@ use Rattle.lrs_journal.specs.Journal.{TellsStore}
 use Rattle.lrs_record.specs.Entries.{written_entry}
 use Rattle.lrs_record.specs.declared.entry.Entry.{Entry}
 use Rattle.lrs_hall.specs.LrsHistoryHistory.{IsLegal}
-use Rattle.lrs_hall.specs.LrsMachineDesk.{HoldsPrefix, IsDeskRefused, IsSameStore, IsStoreOf}
+use Rattle.lrs_hall.specs.LrsMachineDesk.{HoldsPrefix, IsDeskRefused, IsSameStore, IsStoreOf, SparesLegal}
 use Rattle.lrs_hall.specs.LrsMachineOpeningDeskRefused.{DeskRefused}
 use Rattle.lrs_hall.specs.LrsMachineOpeningDeskRefusedTheVariants as refused
 use Rattle.lrs_hall.specs.Serving.{Tide, tide_at}
@@ -75,6 +75,8 @@ pub record LeavesUnopened {D : Type 0} (d : disks.Ghosts D) (taken : Taken) (dis
   pub ended : end ≡ ending_of why
   pub counts : n ≡ 0
   pub later : taken.tide.moment ≤ d.time disk
+  -- the store of a legal history is refused only for a fault, or if memory runs out
+  pub spares : IfSome taken.held (λ bytes. SparesLegal bytes why)
   pub holds : IfSome taken.held (λ bytes. EndsUnopened bytes (d.told disk) end)
   pub stops : ForSome taken.held (λ bytes. AnyStopLeaves d taken disk (IsSpared end bytes))
 

@@ -1,6 +1,7 @@
 pub mod ClosingSteps
 pub mod Disks
 pub mod Doing
+pub mod Due
 pub mod Load
 pub mod LoadSteps
 pub mod Run

@@ -321,34 +321,55 @@ pub record IsOneStep {D : Type 0} (file : List ℕ) (before after : Outside) (o 
   pub silent : IsSilent o
   pub prints : PrintsEnding end before after o.status
 
-abbrev pub IntakeRuns : {D : Type 0} → disks.Ghosts D → List ℕ → Draw → Outside → Outside → program.Ended D → Type 0
-IntakeRuns d file draw before after o = (clock : ℕ) × (end : Ending) × IsOneStep file before after o clock end
+-- intake ends so, at this reading of the clock
+abbrev pub IntakeRunsTo : {D : Type 0} → disks.Ghosts D → List ℕ → Draw → Outside → Outside → program.Ended D → ℕ
+    → Ending → Type 0
+IntakeRunsTo d file draw before after o clock end = IsOneStep file before after o clock end
     × IntakeLeaves d file clock draw before after o.disk o.report.length end
+
+abbrev pub IntakeRuns : {D : Type 0} → disks.Ghosts D → List ℕ → Draw → Outside → Outside → program.Ended D → Type 0
+IntakeRuns d file draw before after o =
+    (clock : ℕ) × (end : Ending) × IntakeRunsTo d file draw before after o clock end
+
+-- init ends so, at this reading of the clock
+abbrev pub InitRunsTo : {D : Type 0} → disks.Ghosts D → List ℕ → List ℕ → List ℕ → ℕ → Outside → Outside
+    → program.Ended D → ℕ → Ending → Type 0
+InitRunsTo d file admin base limit before after o clock end = IsOneStep file before after o clock end
+    × InitLeaves d file admin base limit clock before after o.disk o.report.length end
 
 abbrev pub InitRuns : {D : Type 0} → disks.Ghosts D → List ℕ → List ℕ → List ℕ → ℕ → Outside → Outside → program.Ended D
     → Type 0
-InitRuns d file admin base limit before after o = (clock : ℕ) × (end : Ending) × IsOneStep file before after o clock end
-    × InitLeaves d file admin base limit clock before after o.disk o.report.length end
+InitRuns d file admin base limit before after o =
+    (clock : ℕ) × (end : Ending) × InitRunsTo d file admin base limit before after o clock end
 
--- load reads the clock once for each batch
-abbrev pub LoadRuns : {D : Type 0} → disks.Ghosts D → List ℕ → ℕ → ℕ → Draws → Outside → Outside → program.Ended D
-    → Type 0
-LoadRuns d file seed count draws before after o = (clocks : List ℕ) × (end : Ending)
-    × AddsReadings before.readings after.readings clocks
+-- load ends so, with a reading of the clock for each batch
+abbrev pub LoadRunsTo : {D : Type 0} → disks.Ghosts D → List ℕ → ℕ → ℕ → Draws → Outside → Outside → program.Ended D
+    → List ℕ → Ending → Type 0
+LoadRunsTo d file seed count draws before after o clocks end = AddsReadings before.readings after.readings clocks
     × TakesFile file before after
     × SparesDoors before after
     × IsSilent o
     × LoadLeaves d file seed count draws clocks before after o.disk o.report.length end
     × PrintsEnding end before after o.status
 
--- serve reads no clock but those of its doors
-abbrev pub ServeRuns : {D : Type 0} → disks.Ghosts D → List ℕ → List ℕ → ℕ → ℕ → List ℕ → Outside → Outside
-    → program.Ended D → Type 0
-ServeRuns d file address workers connections seed before after o = (end : Ending) × (after.readings ≡ before.readings)
+abbrev pub LoadRuns : {D : Type 0} → disks.Ghosts D → List ℕ → ℕ → ℕ → Draws → Outside → Outside → program.Ended D
+    → Type 0
+LoadRuns d file seed count draws before after o =
+    (clocks : List ℕ) × (end : Ending) × LoadRunsTo d file seed count draws before after o clocks end
+
+-- serve ends so; it reads no clock but those of its doors
+abbrev pub ServeRunsTo : {D : Type 0} → disks.Ghosts D → List ℕ → List ℕ → ℕ → ℕ → List ℕ → Outside → Outside
+    → program.Ended D → Ending → Type 0
+ServeRunsTo d file address workers connections seed before after o end = (after.readings ≡ before.readings)
     × TakesFile file before after
     × (o.report.responses ≡ responses_of o.report.talks)
     × ServeLeaves d file address workers connections seed before after o.disk o.report.talks o.report.length end
     × PrintsEnding end before after o.status
+
+abbrev pub ServeRuns : {D : Type 0} → disks.Ghosts D → List ℕ → List ℕ → ℕ → ℕ → List ℕ → Outside → Outside
+    → program.Ended D → Type 0
+ServeRuns d file address workers connections seed before after o =
+    (end : Ending) × ServeRunsTo d file address workers connections seed before after o end
 
 -- the one draw of intake is the first of stream 0, and those of load are the first ones
 abbrev pub CommandRuns : {D : Type 0} → disks.Ghosts D → CommandLine → List ℕ → Outside → Outside → program.Ended D

@@ -6,6 +6,7 @@ ghost use Rattle.lrs_journal.specs.Store.{IsLimit};
 ghost use Rattle.lrs_parts.specs.Founding.{IsToken, IsBase};
 ghost use Rattle.lrs_command_line.specs.CommandLine.{CommandLine, IsCommandLine};
 ghost use Rattle.lrs_command_line.specs.Shapes.{Denotes};
+ghost use Rattle.lrs_app.specs.Due.{EndsAsDue};
 ghost use Rattle.lrs_app.specs.Doing.{InitDoes, IntakeDoes, IsUndone, LoadDoes, ServeDoes};
 ghost use Rattle.lrs_app.specs.Service.{doors};
 ghost use Rattle.lrs_app.specs.Run.{CommandRuns, InitRuns, IntakeRuns, LoadRuns, PrintsLine, Runs, ServeRuns, outside};
@@ -416,7 +417,9 @@ pub fn run<R: Threads + Wait + Sync, S: Shelf, B: Lobby, I: Source, O: Sink>(
 where
     S::Disk: Send,
     <B::Door as Door>::Link: Send,
-    ensures { let seen = outside S.Shelf B.Lobby I.Source O.Sink in Runs S.Disk.Disk words.now seed
+    ensures runs { let seen = outside S.Shelf B.Lobby I.Source O.Sink in Runs S.Disk.Disk words.now seed
+        (seen shelf.old lobby.old input.old out.old) (seen shelf.new lobby.new input.new out.new) result }
+    ensures due { let seen = outside S.Shelf B.Lobby I.Source O.Sink in EndsAsDue S.Disk.Disk words.now seed
         (seen shelf.old lobby.old input.old out.old) (seen shelf.new lobby.new input.new out.new) result }
 {
     match read_words(alloc, words) {

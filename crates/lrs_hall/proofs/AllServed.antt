@@ -11,7 +11,7 @@ use Rattle.lrs_machine.specs.Line.{BeginsWith, Record}
 use Rattle.lrs_turn.specs.Lists.{Each, NoneFalls, times, total}
 use Rattle.lrs_turn.proofs.Steps.{none_falls_then}
 use Rattle.lrs_turn.specs.Passes.{IsIdle, OwnsEach, Pass, Turns, opened}
-use Rattle.lrs_hall.specs.Acts.{ActsIn, limit_in, tide_in}
+use Rattle.lrs_hall.specs.Acts.{ActsIn, ActsOn, limit_in, tide_in}
 use Rattle.lrs_hall.specs.Draws.{Draws, start_of}
 use Rattle.lrs_hall.specs.Laws.{Makes, entries_at}
 use Rattle.lrs_hall.specs.Serving.{AreOnLinks, AreWithin, IsNotBelow, all_receipts, worker_at}
@@ -27,6 +27,7 @@ use Rattle.lrs_hall.proofs.Once.{entries_once, makes_at, makes_behind}
 use Rattle.lrs_hall.proofs.AtDoors.{backwards_length, map_backwards, map_more, total_more}
 use Rattle.lrs_hall.proofs.Talking.{over_all}
 use Rattle.lrs_hall.proofs.UnderTurn.{tide_below}
+use Rattle.lrs_hall.proofs.Whole.{are_whole}
 
 -- ---- lists
 
@@ -138,6 +139,7 @@ module _ {D O : Type 0} (code : Coded D) (state : O → DoorState) (faults time 
         links = s.links;
         last = v.draws;
         on_links = subst (λ (d : Draws). AreOnLinks (ActsIn old.limit final.line) v.talks s.links (worker_at d (length old.line) [] from) end) draws (over_line w v back);
+        whole = are_whole (ActsOn (limit_in w.pass.marks)) v.talks s.links _ _ s.on_links;
         known = known_of w v back;
         through = s.through;
         readings = all_read (limit_in w.pass.marks) v.talks s.links _ _ s.on_links;

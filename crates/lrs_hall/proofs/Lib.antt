@@ -14,6 +14,8 @@ pub mod Tides
 pub mod Once
 pub mod Doors
 pub mod OneStream
+pub mod Whole
+pub mod Refusals
 pub mod AtDoors
 pub mod Gathered
 pub mod AllServed

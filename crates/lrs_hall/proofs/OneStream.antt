@@ -262,7 +262,7 @@ cut_off : {X : Type 0} (acts : ActOn X) (rs : List Receipt) (out : List ℕ) (f 
 cut_off acts [] out f old new talks = talks.1
 cut_off acts (r ∷ rs) out f old new talks = absurd talks.5
 
-went_whole : {X : Type 0} (acts : ActOn X) (text front : List ℕ) (due phase : Phase) (rs : List Receipt) (out : List ℕ) (f : Finish) (old new : Worker X)
+pub went_whole : {X : Type 0} (acts : ActOn X) (text front : List ℕ) (due phase : Phase) (rs : List Receipt) (out : List ℕ) (f : Finish) (old new : Worker X)
     → SendsResponse text due front phase → Converses acts phase rs out f old new → f ≢ finish.LinkFault → (front ≡ text) × (phase ≡ due)
 went_whole acts text front due phase rs out f old new (inl whole) talks smooth = whole
 went_whole acts text front due phase rs out f old new (inr cut) talks smooth =
@@ -307,7 +307,7 @@ abbrev pub IsCalm : Finish → Type 0
 IsCalm f = (f ≢ finish.Memory) × (f ≢ finish.LinkFault)
 
 -- the item at which it ended
-end_item : (stream : List ℕ) (f : Finish) → EndsOpen (Some stream) f → IsCalm f → (IsItem stream (Err request.End) × (f ≡ finish.Ended)) ⊎ (IsItem stream (Err request.Cut) × (f ≡ finish.Cut))
+pub end_item : (stream : List ℕ) (f : Finish) → EndsOpen (Some stream) f → IsCalm f → (IsItem stream (Err request.End) × (f ≡ finish.Ended)) ⊎ (IsItem stream (Err request.Cut) × (f ≡ finish.Cut))
 end_item stream finish.Ended ends calm = inl (ends, refl)
 end_item stream finish.Cut ends calm = inr (ends, refl)
 end_item stream finish.Closed ends calm = absurd ends

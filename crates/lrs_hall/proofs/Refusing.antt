@@ -5,8 +5,9 @@ use Rattle.lrs_machine.specs.Acts.{Receipt, plain_receipt}
 use Rattle.lrs_hall.specs.declared.answering.FixedResponse as code
 use Rattle.lrs_hall.specs.declared.exchange.Exchanged.{Exchanged}
 use Rattle.lrs_hall.specs.declared.talk.Finish.{Finish}
+use Rattle.lrs_hall.specs.Conversation.{finish_after}
 use Rattle.lrs_hall.specs.Responses.{FixedResponse, fixed_text, framing_response}
-use Rattle.lrs_hall.specs.Steps.{IsResponse, AreResponses, Wrote, RefusesRequest, exchanged_of, finish_after}
+use Rattle.lrs_hall.specs.Steps.{IsResponse, AreResponses, Wrote, RefusesRequest, exchanged_of}
 
 by_sent : {T E : Type 0} (refusal : RequestRefused) (f : FixedResponse) (receipt : Receipt) (due : Finish) (sent : Result T E) (before now : Option (List ℕ))
     → framing_response refusal ≡ Some f → receipt ≡ plain_receipt f.status → due ≡ finish_after refusal

@@ -1,6 +1,7 @@
 -- From what acts left in a worker's pass to what they tell of the one line.
-use Rattle.std.proofs.Common.{◌≡◌, ◌+◌, ℕ, List, [], ◌∷◌, ◌++◌, length, take, Bool, true, false, refl, sym, ap, ◌∙◌, subst, append-nil, length-append}
+use Rattle.std.proofs.Common.{◌≡◌, ◌+◌, ℕ, List, [], ◌∷◌, ◌++◌, length, take, Bool, true, false, Result, Ok, Err, inl, inr, ◌⊎◌, refl, sym, ap, ◌∙◌, subst, append-nil, length-append}
 use Rattle.std.specs.Prelude.{if◌then◌else◌}
+use Rattle.lrs_disk.specs.Faults.{Rises}
 use Rattle.lrs_machine.specs.Line.{BeginsWith, Record, entries}
 use Rattle.lrs_machine.specs.Acts.{Acts, Receipt, changed, line_behind, made_by, record_of}
 use Rattle.lrs_machine.specs.Desk.{Tide}
@@ -9,7 +10,11 @@ use Rattle.lrs_names.specs.declared.draw.Draw.{Draw}
 use Rattle.lrs_record.specs.declared.entry.Caller.{Caller}
 use Rattle.lrs_record.specs.declared.entry.Entry.{Entry}
 use Rattle.lrs_command.specs.declared.command.Command.{Command}
+use Rattle.lrs_replies.specs.Replies.{Says}
+use Rattle.lrs_replies.specs.declared.answered.Answered.{Answered}
 use Rattle.lrs_replies.specs.declared.reply.Reply.{Reply}
+use Rattle.lrs_replies.specs.declared.reply.Trouble.{Trouble}
+use Rattle.lrs_replies.specs.declared.reply.Trouble.TheVariants as trouble
 use Rattle.lrs_hall.specs.Acts.{ActsAt, ActsIn, ActsOn, Reach, Seen, SeenAndClock, own_behind, tide_behind}
 use Rattle.lrs_hall.proofs.Lines.{begins_length, begins_more, begins_take, entries_take}
 
@@ -42,6 +47,13 @@ same_reach n m own other tide left is same at =
     ∙ ap (λ (l : List ℕ). let r : Reach = record { records = m; own = l; tide = tide } in r) same
     ∙ ap (λ (x : Tide). let r : Reach = record { records = m; own = other; tide = x } in r) at
 
+-- trouble with the disk has its cause, so without that the reply says the answer or that memory ran out
+due_of : (a : Answer) (said : Result Answered Trouble) (receipt : Receipt) (old new : List Record) (reply : Reply) → Acts a said receipt old new → Says said reply
+    → (Rises receipt.was receipt.is → ⊥) → Says (Ok a.said) reply ⊎ Says (Err trouble.Memory) reply
+due_of a (Ok s) receipt old new reply acts says still = inl (subst (λ (x : Answered). Says (Ok x) reply) acts.tells.0 says)
+due_of a (Err trouble.Memory) receipt old new reply acts says still = inr says
+due_of a (Err trouble.Disk) receipt old new reply acts says still = absurd (still acts.cause.1)
+
 module _ (limit : ℕ) (caller : Caller) (command : Command) (draw : Draw) (reply : Reply) (receipt : Receipt) where
   -- what was seen after an act begins with the line that the desk had
   front_taken : (line : List Record) (old new : Seen) → ActsAt line limit caller command draw reply receipt old new → BeginsWith line new.front
@@ -71,6 +83,7 @@ module _ (limit : ℕ) (caller : Caller) (command : Command) (draw : Draw) (repl
         says = on.says;
         acts = subst (λ (l : List Record). Acts a on.said receipt l (take (length new.front) whole)) (sym front)
             (subst (λ (l : List Record). Acts a on.said receipt line l) (sym seen) acts);
+        due = due_of a on.said receipt line new.front reply acts on.says;
         within = begins_length new.front whole begun;
         reach = same_reach (length new.front) (if changed receipt then length line + 1 else length line) new.own (own_behind (length line) receipt old.own) new.tide (tide_behind receipt)
             (behind_length line new.front (answer limit (entries line) caller command receipt.clock draw) receipt on.acts.line) on.own on.tide;

@@ -1,5 +1,7 @@
 -- What an act of a conversation tells: of what its worker has seen, and of the one line that there is in the end.
-use Rattle.std.specs.Prelude.{◌≡◌, ◌≤◌, ◌+◌, ℕ, List, [], ◌∷◌, ◌++◌, length, take, Option, Result, if◌then◌else◌}
+use Rattle.std.specs.Prelude.{◌≡◌, ◌⊎◌, ◌≤◌, ◌+◌, ℕ, List, [], ◌∷◌, ◌++◌, length, take, Option, Result, Ok, Err}
+use Rattle.std.specs.Prelude.{if◌then◌else◌}
+use Rattle.lrs_disk.specs.Faults.{Rises}
 use Rattle.lrs_disk.specs.Readings.{AddsReading}
 use Rattle.lrs_machine.specs.Line.{BeginsWith, Record, entries}
 use Rattle.lrs_machine.specs.Acts.{Acts, Receipt, changed}
@@ -9,6 +11,7 @@ use Rattle.lrs_replies.specs.Replies.{Says}
 use Rattle.lrs_replies.specs.declared.answered.Answered.{Answered}
 use Rattle.lrs_replies.specs.declared.reply.Reply.{Reply}
 use Rattle.lrs_replies.specs.declared.reply.Trouble.{Trouble}
+use Rattle.lrs_replies.specs.declared.reply.Trouble.TheVariants as trouble
 use Rattle.lrs_names.specs.declared.draw.Draw.{Draw}
 use Rattle.lrs_record.specs.declared.entry.Caller.{Caller}
 use Rattle.lrs_command.specs.declared.command.Command.{Command}
@@ -60,6 +63,10 @@ pub record ActsIn (limit : ℕ) (line : List Record) (caller : Caller) (command 
   pub says : Says said reply
   pub acts : Acts (answer limit (take receipt.point (entries line)) caller command receipt.clock draw) said receipt
       (take at line) (take new.records line)
+  -- if the disk's count of faults didn't rise, the reply says the answer, or that memory ran out
+  pub due : (Rises receipt.was receipt.is → ⊥)
+      → Says (Ok (answer limit (take receipt.point (entries line)) caller command receipt.clock draw).said) reply
+      ⊎ Says (Err trouble.Memory) reply
   pub within : new.records ≤ length line
   pub reach : new ≡ reach_behind at receipt old
 

@@ -77,6 +77,14 @@ abbrev pub closes_after : ℕ → Result Request RequestRefused → Bool
 closes_after most (Ok request) = request.closes || most == 1
 closes_after most (Err refusal) = true
 
+-- how a conversation ends after a response to what is no request, or without one
+abbrev pub finish_after : RequestRefused → Finish
+finish_after request.End = finish.Ended
+finish_after request.Cut = finish.Cut
+finish_after request.LinkFault = finish.LinkFault
+finish_after request.Memory = finish.Memory
+finish_after other = finish.Closed
+
 -- where a conversation stands after a whole response
 abbrev pub phase_after : ℕ → Result Request RequestRefused → Option (List ℕ) → Phase
 phase_after most (Ok request) after = if closes_after most (Ok request) then ended_with finish.Closed

@@ -8,7 +8,6 @@ use Rattle.lrs_command.specs.declared.command.Command.{Command}
 use Rattle.lrs_command.specs.Areas.{command_area}
 use Rattle.lrs_http.specs.declared.request.Request.{Request}
 use Rattle.lrs_http.specs.declared.request.RequestRefused.{RequestRefused}
-use Rattle.lrs_http.specs.declared.request.RequestRefused.TheVariants as request
 use Rattle.lrs_http.specs.Response.{IsStatus}
 use Rattle.lrs_machine.specs.Desk.{Desk, lets_in, marks_of, tide_of}
 use Rattle.lrs_routes.specs.declared.asked.Routed.{Routed}
@@ -21,7 +20,7 @@ use Rattle.lrs_turn.specs.Lists.{NoneFalls}
 use Rattle.lrs_turn.specs.Passes.{HasTurn, Pass, Turns, committed, pointed}
 use Rattle.lrs_hall.specs.Acts.{ActsOn, SeenAndClock, limit_in, seen_of}
 use Rattle.lrs_hall.specs.Conversation.{ActOn, Worker, going, ended_with, Responds, EndsOpen, SendsResponse}
-use Rattle.lrs_hall.specs.Conversation.{ServesRequest}
+use Rattle.lrs_hall.specs.Conversation.{ServesRequest, finish_after}
 use Rattle.lrs_machine.specs.Acts.{Receipt, changed}
 use Rattle.lrs_hall.specs.Draws.{Draws, draw_at, next_draws, start_of}
 use Rattle.lrs_hall.specs.Serving.{AreOnLinks, BringsOne, ComesThrough, EndsServing, KeepsPass}
@@ -113,14 +112,6 @@ abbrev pub Serves : {T E : Type 0} → ℕ → Bool → Request → Worker SeenA
     → Result T E → Option (List ℕ) → Option (List ℕ) → Type 0
 Serves limit closes request old new receipt sent before now =
     (text : List ℕ) × ServesRequest (ActsOn limit) closes (Ok request) receipt text old new × Wrote text sent before now
-
--- how a conversation ends after a response to what is no request, or without one
-abbrev pub finish_after : RequestRefused → Finish
-finish_after request.End = finish.Ended
-finish_after request.Cut = finish.Cut
-finish_after request.LinkFault = finish.LinkFault
-finish_after request.Memory = finish.Memory
-finish_after other = finish.Closed
 
 -- a conversation ends for a fault of the link only if its count rose
 abbrev pub HasFinishCause : ℕ → ℕ → Finish → Type 0

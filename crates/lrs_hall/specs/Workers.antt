@@ -10,6 +10,7 @@ use Rattle.lrs_hall.specs.Laws.{entries_at}
 use Rattle.lrs_hall.specs.Serving.{AddsReadings, AreOnLinks, ComesThrough, EndsServing, IsNotBelow, Tide}
 use Rattle.lrs_hall.specs.Serving.{all_receipts, clocks, worker_at}
 use Rattle.lrs_hall.specs.Talks.{Talk}
+use Rattle.lrs_hall.specs.Whole.{AreWhole}
 use Rattle.lrs_hall.specs.declared.serving.ServeEnd.{ServeEnd}
 use Rattle.lrs_hall.specs.declared.serving.ServeEnd.TheVariants as serve
 
@@ -29,6 +30,8 @@ pub record IsStint (limit : ℕ) (line : List Record) (opened : ℕ) (opening cl
   pub last : Draws
   pub on_links : AreOnLinks (ActsIn limit line) stint.talks links (worker_at draws opened [] opening)
       (worker_at last stint.reach.records stint.reach.own stint.reach.tide)
+  -- on a link that didn't fail no request is left out, unless its talk ended for want of memory
+  pub whole : AreWhole stint.talks links
   pub known : IsNotBelow stint.reach.tide closing
   pub through : ComesThrough stint.before stint.behind links
   pub readings : AddsReadings stint.before.readings stint.behind.readings (clocks (all_receipts stint.talks))

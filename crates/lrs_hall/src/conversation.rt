@@ -1,9 +1,11 @@
 //! Conversations: one connection is served from its first request to its end.
 ghost use Rattle.std.specs.Prelude.{◌≡◌, ◌<◌, ◌++◌, List, ℕ, Some, IsTrue, option_map, vec_len, vec_capacity};
+ghost use Rattle.lrs_disk.specs.Faults.{Rises};
 ghost use Rattle.lrs_turn.specs.Passes.{IsIdle};
 ghost use Rattle.lrs_hall.specs.Acts.{ActsOn, limit_in, tide_in};
 ghost use Rattle.lrs_hall.specs.Serving.{AddsReadings, AreWithin, IsConversation, IsWholeTalk, KeepsPass, clocks};
 ghost use Rattle.lrs_hall.specs.Steps.{HasFinishCause, worker};
+ghost use Rattle.lrs_hall.specs.Whole.{IsWhole};
 
 use crate::exchange::{Exchanged, exchange};
 use crate::{Draws, Finish, Talk};
@@ -110,7 +112,12 @@ pub fn converse<R: Wait, D: Disk, O: Door>(
     requires idle { IsIdle turns.now pass.old }
     ensures talk { IsConversation pass.old pass.new draws.old draws.new (O.Link.left link.old)
         (O.Link.taken link.old) (O.Link.taken link.new) result }
+
     ensures readings { AddsReadings (O.state door.old).readings (O.state door.new).readings (clocks result.receipts) }
+
+    // No request is left out, unless the link fails or the talk ends for want of memory.
+    ensures whole { (Rises (O.Link.fault_count link.old) (O.Link.fault_count link.new) → ⊥)
+        → IsWhole (O.Link.left link.old) result }
 
     // The pass is at rest. Its marks and its opening stay, and what it knows of the disk doesn't fall.
     ensures pass { KeepsPass turns.now pass.old pass.new }

@@ -6,10 +6,10 @@ ghost use Rattle.lrs_record.specs.Entries.{IsLawfulCaller};
 ghost use Rattle.lrs_routes.specs.Asked.{IsCommandOf, IsRoutedAs};
 ghost use Rattle.lrs_turn.specs.Passes.{IsIdle};
 ghost use Rattle.lrs_hall.specs.Acts.{ActsOn, limit_in};
-ghost use Rattle.lrs_hall.specs.Conversation.{closes_after};
+ghost use Rattle.lrs_hall.specs.Conversation.{closes_after, finish_after};
 ghost use Rattle.lrs_hall.specs.Responses.{IsFixed, route_response};
 ghost use Rattle.lrs_hall.specs.Serving.{KeepsPass};
-ghost use Rattle.lrs_hall.specs.Steps.{worker, Wrote, Exchanges, HasExchangeCause, Serves, finish_after, exchanged_of, RefusesRequest, IsRefusalCause};
+ghost use Rattle.lrs_hall.specs.Steps.{worker, Wrote, Exchanges, HasExchangeCause, Serves, exchanged_of, RefusesRequest, IsRefusalCause};
 
 use crate::acting::{Looked, act, look};
 use crate::admitted::{Admitted, was_let_in};

@@ -1,4 +1,5 @@
 ghost use Rattle.lrs_hall.specs.Laws.{Alone, AnswersAsAsked, EntriesOnce, InOrder, KeepsPromises, OneStream, OwnEntries, Points};
+ghost use Rattle.lrs_hall.specs.Refusals.{RefusalsLeaveNothing, TroubleLeavesAtMostDoubt};
 
 use lrs_disk::Disk;
 
@@ -48,4 +49,11 @@ pub fn law_of_unread_requests()
 /// clock and the same draws, if memory suffices, nothing fails, and nobody else acts. It is a law of the definitions.
 pub fn law_of_one_stream()
     ensures { OneStream }
+{}
+
+/// With another status than 200, 204 and 503 an act makes no entry, and the history is what it was. With 503 the history
+/// is what it was, or, only if the disk failed, it has the act's one entry, in doubt. It is a law of the definitions.
+pub fn law_of_refusals()
+    ensures refusals { RefusalsLeaveNothing }
+    ensures trouble { TroubleLeavesAtMostDoubt }
 {}

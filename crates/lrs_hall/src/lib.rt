@@ -18,7 +18,7 @@ pub use conversation::converse;
 pub use draws::Draws;
 pub use laws::{
     law_of_entries, law_of_one_stream, law_of_one_worker, law_of_order, law_of_own_entries,
-    law_of_points, law_of_receipts, law_of_unread_requests,
+    law_of_points, law_of_receipts, law_of_refusals, law_of_unread_requests,
 };
 pub use lrs_machine::{
     Answered, Desk, DeskRefused, FoundRefused, Receipt, Record, Refusal, Trouble, is_base, is_token,

@@ -42,3 +42,4 @@ pub mod EnrolledStill
 pub mod Told
 pub mod ToldNext
 pub mod SatisfiedTold
+pub mod Refusals

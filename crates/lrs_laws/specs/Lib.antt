@@ -4,3 +4,4 @@ pub mod Fetches
 pub mod Sessions
 pub mod Speaking
 pub mod Verdicts
+pub mod Refusals

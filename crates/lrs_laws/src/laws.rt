@@ -1,6 +1,7 @@
 ghost use Rattle.lrs_laws.specs.Documents.{DocumentsAreFolds, HeldDocumentsAreShown, IdsTellDocuments, MergedIsRead, NothingIsDroppedQuietly, PostedDocumentsAreMerged, UnmergeableIsTold};
 ghost use Rattle.lrs_laws.specs.Fetches.{FetchesGive, KeysGiveOnce, UsedKeysAreTold};
 ghost use Rattle.lrs_laws.specs.Laws.{BatchConflictsAreTold, BatchesAreWhole, CallersHaveAuthority, CallersStayLetIn, ConflictsAreTold, CoursesNameOne, DeskIdsAreNew, FirstPagesAreTold, LinksGoOn, LinksStay, LinksWhereMoreComes, MadeIdsAreNew, NamesForGood, NamesOne, PagesEnd, PagesGiveTheList, PositionsComeOnce, PutsAreHeld, RepeatedBatchesAreTaken, RepeatsAreTaken, StaysVoided, StrangersAreToldAlike};
+ghost use Rattle.lrs_laws.specs.Refusals.{RefusedMakesNoEntry, StatusesTellRefusals};
 ghost use Rattle.lrs_laws.specs.Sessions.{GivenTokensAct, KeysAreTheirLaunches, LaunchesLeaveStatements, OneSessionIsOpen, OtherTokensAreUnknown, SessionTokensWereGiven, SessionsAreBarredFromTheDesk, SessionsAreLaunched, SessionsKeepLaunchData, SessionsKeepToTheirDocuments, SessionsSeeTheirRegistration};
 ghost use Rattle.lrs_laws.specs.Speaking.{AbandonedSessionsAreSilent, ResultsCountOnce, SessionsSpeakInOrder};
 ghost use Rattle.lrs_laws.specs.Verdicts.{SatisfiedAreTold, SatisfiedOnce};
@@ -91,4 +92,11 @@ pub fn law_of_sessions()
 pub fn law_of_verdicts()
     ensures once { SatisfiedOnce }
     ensures told { SatisfiedAreTold }
+{}
+
+/// Over every history a command that is refused makes no entry, whatever the reason. The status of an answer is 200 or
+/// 204 exactly if nothing is refused.
+pub fn law_of_answers()
+    ensures none { RefusedMakesNoEntry }
+    ensures status { StatusesTellRefusals }
 {}

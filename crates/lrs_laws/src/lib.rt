@@ -5,5 +5,6 @@
 mod laws;
 
 pub use laws::{
-    law_of_documents, law_of_fetches, law_of_names, law_of_pages, law_of_sessions, law_of_verdicts,
+    law_of_answers, law_of_documents, law_of_fetches, law_of_names, law_of_pages, law_of_sessions,
+    law_of_verdicts,
 };

@@ -17,4 +17,4 @@ returns-in-Ok-clause-ends g c =
 pub returns-in-Err-clause-ends : goal.returns-in-Err-clause-ends
 returns-in-Err-clause-ends g c =
     inl (leaves_unopened g.D.Disk c.args.disk c.in-Err.disk c.in-Err.refused c.unopened.result c.unopened.ensures c.in-Err.ensures.refused c.in-Err.ensures.same c.in-Err.ensures.left
-    c.requires.settled c.in-Err.ensures.stops_err c.in-Err.ensures.untouched c.in-Err.ensures.later_err)
+    c.in-Err.ensures.legal c.requires.settled c.in-Err.ensures.stops_err c.in-Err.ensures.untouched c.in-Err.ensures.later_err)

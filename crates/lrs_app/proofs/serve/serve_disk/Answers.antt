@@ -27,7 +27,7 @@ pub returns-in-Err-clause-served : goal.returns-in-Err-clause-served
 returns-in-Err-clause-served g c =
     unopened_serves g.D.Disk _ c.in-Err.disk c.args.address.now c.args.workers c.args.connections c.args.seed _ c.new.result c.in-Err.refused c.unopened.result c.unopened.ensures c.new.ensures
     (leaves_unopened g.D.Disk c.args.disk c.in-Err.disk c.in-Err.refused c.unopened.result c.unopened.ensures c.in-Err.ensures.refused c.in-Err.ensures.same c.in-Err.ensures.left
-    c.requires.settled c.in-Err.ensures.stops_err c.in-Err.ensures.untouched c.in-Err.ensures.later_err)
+    c.in-Err.ensures.legal c.requires.settled c.in-Err.ensures.stops_err c.in-Err.ensures.untouched c.in-Err.ensures.later_err)
 
 pub returns-in-Ok-clause-counts : goal.returns-in-Ok-clause-counts
 returns-in-Ok-clause-counts g c =
