@@ -43,6 +43,8 @@ answer_without_program() {
 run() {
   # The C library then keeps 8,000 freed blocks of each size for each worker, in place of 7. A batch frees as many.
   export GLIBC_TUNABLES=${GLIBC_TUNABLES-glibc.malloc.tcache_count=8000}
+  # A write past the system's limit on the size of files then fails, in place of ending the program.
+  trap '' XFSZ
   exec "$@"
 }
 

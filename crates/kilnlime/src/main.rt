@@ -17,6 +17,9 @@ const NO_RANDOM_SOURCE: u8 = 21;
 /// The status if the words are no command.
 const NO_COMMAND: u8 = 1;
 
+/// How many files a command works on.
+const FILES: usize = 1;
+
 const USAGE: &str = "usage: kilnlime init FILE --admin TOKEN [--base URL] [--limit BYTES]
        kilnlime intake FILE < STATEMENT
        kilnlime serve FILE ADDRESS --workers W --connections N
@@ -63,7 +66,9 @@ fn main(rt: HostRuntime) -> ExitCode {
         let _ = println!(rt; "no random source");
         return ExitCode::from(NO_RANDOM_SOURCE);
     }
-    let mut shelf = FileShelf::new(rt);
+    let Ok(mut shelf) = FileShelf::new(rt, FILES) else {
+        return exit(&rt, finish(&mut out, Ending::Memory), None);
+    };
     let mut lobby = TcpLobby::new(rt);
     let mut input = StdSource::new(rt.stdin());
     let ended = run(

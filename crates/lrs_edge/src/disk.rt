@@ -5,6 +5,7 @@ use crate::ahead::ReadAhead;
 use crate::faults::Faults;
 use crate::file::{OWNER_ALONE, OptionalFile};
 use crate::reports::report;
+use crate::rooms::Rooms;
 use lrs_disk::{Disk, Failed};
 use std::alloc::Global;
 use std::fs::{File, OpenOptions};
@@ -164,14 +165,15 @@ impl<R: Files<File = File> + Eprint + Copy> Content<R> {
     }
 }
 
-// A name with its file, if there is one.
+// A name with its file, if there is one. The name is kept in one of these rooms, so this takes no memory.
 pub(crate) fn open<R: Files<File = File> + Eprint + Copy>(
     alloc: Global,
     rt: R,
+    rooms: &mut Rooms,
     name: &str,
 ) -> io::Result<Content<R>> {
     let file = find(&rt, name)?;
-    let name = String::from_str(alloc, name)?;
+    let name = rooms.keep(name)?;
     Ok(Content {
         rt,
         name,

@@ -20,6 +20,7 @@ mod link;
 mod lobby;
 mod pace;
 mod reports;
+mod rooms;
 mod shelf;
 mod streams;
 

@@ -11,7 +11,7 @@ use crate::pace::Patience;
 use crate::reports::report;
 use lrs_disk::{Door, DoorsRefused, Lobby};
 use std::alloc::Global;
-use std::io;
+use std::io::{self, ErrorKind};
 use std::net::{Net, TcpListener, TcpStream};
 use std::time::Clock;
 
@@ -49,13 +49,20 @@ impl<R: Clock + Net<Listener = TcpListener, Stream = TcpStream> + Eprint + Copy 
     }
 }
 
-// What a call of the system gave, or nothing if it failed, which is reported.
-fn reported(rt: &impl Eprint, address: &str, made: io::Result<TcpListener>) -> Option<TcpListener> {
+// What a call of the system gave. If it failed this is reported. To look up the name of a host takes memory, too.
+fn reported(
+    rt: &impl Eprint,
+    address: &str,
+    made: io::Result<TcpListener>,
+) -> Result<TcpListener, DoorsRefused> {
     match made {
-        Ok(listener) => Some(listener),
+        Ok(listener) => Ok(listener),
         Err(error) => {
             report(rt, &address, "listen", &error);
-            None
+            match error.kind() {
+                ErrorKind::OutOfMemory => Err(DoorsRefused::Memory),
+                _ => Err(DoorsRefused::Failed),
+            }
         }
     }
 }
@@ -84,13 +91,9 @@ fn open<R: Clock + Net<Listener = TcpListener, Stream = TcpStream> + Eprint + Co
     let Ok(mut doors) = Vec::with_capacity(alloc, count) else {
         return Err(DoorsRefused::Memory);
     };
-    let Some(listener) = reported(&rt, address, TcpListener::bind(&rt, address)) else {
-        return Err(DoorsRefused::Failed);
-    };
+    let listener = reported(&rt, address, TcpListener::bind(&rt, address))?;
     for _ in 0..count {
-        let Some(listener) = reported(&rt, address, listener.try_clone()) else {
-            return Err(DoorsRefused::Failed);
-        };
+        let listener = reported(&rt, address, listener.try_clone())?;
         doors.push_reserved(TcpDoor::new(rt, patience, listener));
     }
     Ok(doors)

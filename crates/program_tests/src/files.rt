@@ -17,8 +17,8 @@ fn run_really<R: Threads + Wait + Sync>(
     words: &[Text],
     input: &str,
     out: &mut MemSink,
-) {
-    let mut shelf = FileShelf::new(rt);
+) -> Result<(), Fail> {
+    let mut shelf = FileShelf::new(rt, 1)?;
     let mut lobby = TcpLobby::new(rt);
     let mut input = StdSource::new(input.as_bytes());
     let ended = run(
@@ -32,6 +32,7 @@ fn run_really<R: Threads + Wait + Sync>(
         [7; 32],
     );
     drop(ended);
+    Ok(())
 }
 
 // What the program prints over the real files.
@@ -43,7 +44,7 @@ fn printed<R: Threads + Wait + Sync>(
 ) -> Result<Vec<u8>, Fail> {
     let words = words_of(rt.alloc(), line)?;
     let mut out = MemSink::new(rt.alloc(), 64, Vec::new(rt.alloc()))?;
-    run_really(threads, rt, words.as_slice(), input, &mut out);
+    run_really(threads, rt, words.as_slice(), input, &mut out)?;
     Ok(out.taken().to_vec(rt.alloc())?)
 }
 

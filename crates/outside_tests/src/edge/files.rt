@@ -130,7 +130,7 @@ fn made_by_other(shelf: &mut FileShelf<HostRuntime>, name: &str) -> bool {
 #[test]
 fn a_file_is_made_when_it_is_written_and_has_one_user(rt: HostRuntime) -> Result<(), Fail> {
     let path = path_of(rt, "made")?;
-    let mut shelf = FileShelf::new(rt);
+    let mut shelf = FileShelf::new(rt, 2)?;
     let new = made(rt, &mut shelf, path.as_path().as_str());
     let again = kept(&mut shelf, path.as_path().as_str());
     drop(shelf);
@@ -147,7 +147,7 @@ fn a_file_is_made_when_it_is_written_and_has_one_user(rt: HostRuntime) -> Result
 #[test]
 fn a_file_that_was_made_meanwhile_is_left_alone(rt: HostRuntime) -> Result<(), Fail> {
     let path = path_of(rt, "meanwhile")?;
-    let mut shelf = FileShelf::new(rt);
+    let mut shelf = FileShelf::new(rt, 2)?;
     let wrong = made_by_one(&mut shelf, path.as_path().as_str());
     drop(shelf);
     let removed = fs::remove_file(&rt, path.as_path().as_str()).is_ok();
@@ -181,7 +181,7 @@ fn a_file_that_was_there_is_left_to_its_owner(rt: HostRuntime) -> Result<(), Fai
     let file = File::create(&rt, path.as_path().as_str())?;
     file.set_permissions(Permissions::from_mode(0o644))?;
     drop(file);
-    let mut shelf = FileShelf::new(rt);
+    let mut shelf = FileShelf::new(rt, 1)?;
     let wrong = left_to_its_owner(rt, &mut shelf, path.as_path().as_str());
     drop(shelf);
     let removed = fs::remove_file(&rt, path.as_path().as_str()).is_ok();
@@ -222,7 +222,7 @@ fn first_unseen(shelf: &mut FileShelf<HostRuntime>, name: &str) -> Result<Option
 #[test]
 fn a_read_shows_what_was_written_since_the_last_one(rt: HostRuntime) -> Result<(), Fail> {
     let path = path_of(rt, "since")?;
-    let mut shelf = FileShelf::new(rt);
+    let mut shelf = FileShelf::new(rt, 1)?;
     let wrong = first_unseen(&mut shelf, path.as_path().as_str());
     drop(shelf);
     let removed = fs::remove_file(&rt, path.as_path().as_str()).is_ok();
@@ -308,7 +308,7 @@ fn first_misread(
 #[test]
 fn frames_that_cross_the_end_of_what_is_read_ahead_are_whole(rt: HostRuntime) -> Result<(), Fail> {
     let path = path_of(rt, "ahead")?;
-    let mut shelf = FileShelf::new(rt);
+    let mut shelf = FileShelf::new(rt, 47)?;
     let wrong = first_misread(rt.alloc(), &mut shelf, path.as_path().as_str());
     drop(shelf);
     let removed = fs::remove_file(&rt, path.as_path().as_str()).is_ok();
