@@ -1,15 +1,12 @@
 //! Several callers on one connection, and the same on the next one. An act looks at its caller whether or not the
 //! worker looked at it before, so no answer and no receipt tells how often a connection took the turn. What these rows
 //! show is that each caller is answered as if it were alone.
-ghost use Rattle.std.specs.Prelude.{◌≡◌, None, All, IfOk, length};
-ghost use Rattle.lrs_in_memory_doors.specs.MemDoor.{out_of};
+ghost use Rattle.std.specs.Prelude.{IfOk};
 ghost use Rattle.lrs_in_memory_doors.specs.MemLink.{IsUnusedLink};
 
-use crate::desks::{NOW, founded};
-use lrs_hall::{Desk, ServeEnd, Talk, serve_all};
-use lrs_in_memory::MemDisk;
-use lrs_in_memory_doors::{MemDoor, MemLink};
-use lrs_json::Items;
+use crate::served::{Served, link_of, serve_links};
+use lrs_hall::Talk;
+use lrs_in_memory_doors::MemLink;
 use std::alloc::Global;
 use std::sync::Wait;
 use std::test::Fail;
@@ -96,38 +93,16 @@ fn told(alloc: Global, talk: &Talk) -> Result<String, Fail> {
     Ok(text)
 }
 
-fn link_of(alloc: Global, connection: u8) -> Result<MemLink, Fail>
+fn link(alloc: Global, connection: u8) -> Result<MemLink, Fail>
     ensures { IfOk result IsUnusedLink }
 {
-    let input = stream(alloc, connection)?.as_bytes().to_vec(alloc)?;
-    Ok(MemLink::new(alloc, input, Vec::new(alloc), 9_999, Vec::new(alloc))?)
-}
-
-// One door, which gives both connections.
-fn one_door(alloc: Global) -> Result<Vec<MemDoor>, Fail>
-    ensures count { IfOk result (λ doors. length doors.items ≡ 1) }
-    ensures out { IfOk result (λ doors. All (λ door. out_of door ≡ None) doors.items) }
-{
-    let first = link_of(alloc, 1)?;
-    let second = link_of(alloc, 2)?;
-    let links = vec![in alloc; first, second]?;
-    let door = MemDoor::new(alloc, links, vec![in alloc; NOW]?, Vec::new(alloc))?;
-    Ok(vec![in alloc; door]?)
+    link_of(alloc, stream(alloc, connection)?.as_str(), &[], 9_999, &[])
 }
 
 // What was told on the first connection whose statuses aren't those expected.
-fn first_wrong(
-    alloc: Global,
-    talks: &[Items<Talk>],
-    end: ServeEnd,
-) -> Result<Option<String>, Fail> {
-    if end != ServeEnd::Done {
-        return Err(Fail::from("not done"));
-    }
-    let talks = talks.first().ok_or("no talks")?;
+fn first_wrong(alloc: Global, served: &Served) -> Result<Option<String>, Fail> {
     for connection in 1..3u8 {
-        let index = usize::from(connection - 1);
-        let talk = talks.as_slice().get(index).ok_or("no talk")?;
+        let talk = served.talk(usize::from(connection - 1))?;
         let found = told(alloc, talk)?;
         if found.as_str() != expected(alloc, connection)?.as_str() {
             return Ok(Some(format!(in alloc; "connection {connection}: {found}")?));
@@ -136,37 +111,19 @@ fn first_wrong(
     Ok(None)
 }
 
-fn served_over<R: Threads + Wait + Sync>(
-    rt: &R,
-    alloc: Global,
-    desk: Desk<MemDisk>,
-    doors: Vec<MemDoor>,
-) -> Result<Option<String>, Fail>
-    requires count { length doors.items ≡ 1 }
-    requires out { All (λ door. out_of door ≡ None) doors.items }
-{
-    let (desk, doors, talks, end) = serve_all(rt, alloc, desk, doors, 2, [0; 32]);
-    let wrong = first_wrong(alloc, talks.as_slice(), end);
-    drop(talks);
-    drop(doors);
-    drop(desk);
+// The same of both connections over a new desk.
+fn wrong_of<R: Threads + Wait + Sync>(rt: &R, alloc: Global) -> Result<Option<String>, Fail> {
+    let first = link(alloc, 1)?;
+    let second = link(alloc, 2)?;
+    let served = serve_links(rt, alloc, vec![in alloc; first, second]?)?;
+    let wrong = first_wrong(alloc, &served);
+    drop(served);
     wrong
-}
-
-fn served<R: Threads + Wait + Sync>(rt: &R, alloc: Global) -> Result<Option<String>, Fail> {
-    let doors = one_door(alloc)?;
-    match founded(alloc) {
-        Ok(desk) => served_over(rt, alloc, desk, doors),
-        Err(fail) => {
-            drop(doors);
-            Err(fail)
-        }
-    }
 }
 
 #[test]
 fn each_caller_is_answered_as_if_it_were_alone(rt: HostRuntime) -> Result<(), Fail> {
-    match served(&rt, rt.alloc())? {
+    match wrong_of(&rt, rt.alloc())? {
         Some(found) => Err(Fail::from(found)),
         None => Ok(()),
     }

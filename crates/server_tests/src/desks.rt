@@ -17,8 +17,9 @@ pub(crate) fn if_founded(alloc: Global, failing: &[u64]) -> Result<Option<Desk<M
     if !is_base(alloc, &base)? {
         return Err(Fail::from("no base"));
     }
-    let disk = MemDisk::new(alloc, Vec::new(alloc), failing.to_vec(alloc)?, 999, 65_536)?;
-    match Desk::found(alloc, disk, 65_536, &admin, &base, NOW) {
+    let failing = failing.to_vec(alloc)?;
+    let disk = MemDisk::new(alloc, Vec::new(alloc), failing, 999, 16_777_216)?;
+    match Desk::found(alloc, disk, 16_777_216, &admin, &base, NOW) {
         Ok(desk) => Ok(Some(desk)),
         Err(refused) => {
             drop(refused);

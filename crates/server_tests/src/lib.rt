@@ -8,6 +8,12 @@ mod desks;
 #[cfg(test)]
 mod ends;
 #[cfg(test)]
+mod limits;
+#[cfg(test)]
+mod links;
+#[cfg(test)]
+mod served;
+#[cfg(test)]
 mod tests;
 #[cfg(test)]
 mod workers;

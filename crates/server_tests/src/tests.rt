@@ -3,23 +3,22 @@ ghost use Rattle.lrs_in_memory_doors.specs.MemDoor.{out_of};
 ghost use Rattle.lrs_turn.specs.Passes.{IsIdle};
 
 use crate::desks::founded;
+use crate::served::finish_text;
 use lrs_disk::{Door, Next};
-use lrs_hall::{Desk, Draws, Finish, Record, ServeEnd, Talk, converse, serve_all};
+use lrs_hall::{Desk, Draws, Record, Talk, converse};
 use lrs_in_memory::MemDisk;
 use lrs_in_memory_doors::{MemDoor, MemLink};
-use lrs_json::Items;
 use lrs_routes::Routes;
 use lrs_turn::{Pass, Turns};
 use std::alloc::Global;
 use std::sync::Wait;
 use std::test::Fail;
-use std::thread::Threads;
 
 // A door that gives one connection, which brings so many requests and takes so many bytes.
 fn door_of(alloc: Global, requests: usize, room: usize) -> Result<MemDoor, Fail>
     ensures { IfOk result (λ door. out_of door ≡ None) }
 {
-    let stream = "GET /none HTTP/1.1\r\n\r\n"
+    let stream = "GET /xapi/about HTTP/1.1\r\n\r\n"
         .repeat(alloc, requests)?
         .as_bytes()
         .to_vec(alloc)?;
@@ -30,13 +29,7 @@ fn door_of(alloc: Global, requests: usize, room: usize) -> Result<MemDoor, Fail>
 
 // How a conversation ended, how many responses it had, and what went out.
 fn held_text(alloc: Global, talk: &Talk, link: &MemLink) -> Result<String, Fail> {
-    let finish = match talk.finish() {
-        Finish::Ended => "ended",
-        Finish::Closed => "closed",
-        Finish::Cut => "cut",
-        Finish::LinkFault => "fault",
-        Finish::Memory => "memory",
-    };
+    let finish = finish_text(talk.finish());
     let responses = talk.responses();
     let taken = str::from_utf8(link.taken())?;
     Ok(format!(in alloc; "{finish} {responses} {taken}")?)
@@ -137,25 +130,16 @@ fn check(found: String, expected: &str) -> Result<(), Fail> {
     }
 }
 
-// Fails with what was found, if it doesn't begin with this.
-fn check_front(found: String, expected: &str) -> Result<(), Fail> {
-    if found.as_str().starts_with(expected) {
-        Ok(())
-    } else {
-        Err(Fail::from(found))
-    }
-}
-
 // There is room for half of the response.
 #[test]
 fn a_link_that_fails_ends_its_conversation(rt: HostRuntime) -> Result<(), Fail> {
-    check(conversed(&rt, rt.alloc(), 1, 12)?, "fault 1 HTTP/1.1 404")
+    check(conversed(&rt, rt.alloc(), 1, 12)?, "fault 1 HTTP/1.1 200")
 }
 
-// A response to `GET /none`, in parts: between them stands what says that the connection ends.
+// A response to `GET /xapi/about`, in parts: between them stands what says that the connection ends.
 const ANSWER: [&str; 2] = [
-    "HTTP/1.1 404 Not Found\r\nContent-Type: application/json\r\nContent-Length: 15\r\nX-Experience-API-Version: 1.0.3\r\n",
-    "\r\n{\"error\":\"404\"}",
+    "HTTP/1.1 200 OK\r\nContent-Type: application/json\r\nContent-Length: 21\r\nX-Experience-API-Version: 1.0.3\r\n",
+    "\r\n{\"version\":[\"1.0.3\"]}",
 ];
 
 const CLOSE: &str = "Connection: close\r\n";
@@ -190,72 +174,6 @@ fn check_thousands<R: Wait>(rt: &R, alloc: Global) -> Result<(), Fail> {
 #[test]
 fn a_conversation_has_a_thousand_requests(rt: HostRuntime) -> Result<(), Fail> {
     check_thousands(&rt, rt.alloc())
-}
-
-// What came of the first connection of the first door, if serving ended well.
-fn first_of(
-    alloc: Global,
-    doors: &[MemDoor],
-    talks: &[Items<Talk>],
-    end: ServeEnd,
-) -> Result<String, Fail> {
-    if end != ServeEnd::Done {
-        return Err(Fail::from("not done"));
-    }
-    let talk = talks
-        .first()
-        .and_then(|talks| talks.as_slice().first())
-        .ok_or("no talk")?;
-    let link = doors
-        .first()
-        .and_then(|door| door.returned().first())
-        .ok_or("no link")?;
-    held_text(alloc, talk, link)
-}
-
-fn served_over<R: Threads + Wait + Sync>(
-    rt: &R,
-    alloc: Global,
-    desk: Desk<MemDisk>,
-    doors: Vec<MemDoor>,
-) -> Result<String, Fail>
-    requires count { length doors.items ≡ 1 }
-    requires out { All (λ door. out_of door ≡ None) doors.items }
-{
-    let (desk, doors, talks, end) = serve_all(rt, alloc, desk, doors, 1, [0; 32]);
-    let held = first_of(alloc, doors.as_slice(), talks.as_slice(), end);
-    drop(talks);
-    drop(doors);
-    drop(desk);
-    held
-}
-
-// A list of one door.
-fn one_door(alloc: Global) -> Result<Vec<MemDoor>, Fail>
-    ensures count { IfOk result (λ doors. length doors.items ≡ 1) }
-    ensures out { IfOk result (λ doors. All (λ door. out_of door ≡ None) doors.items) }
-{
-    let door = door_of(alloc, 1, 999)?;
-    Ok(vec![in alloc; door]?)
-}
-
-fn served<R: Threads + Wait + Sync>(rt: &R, alloc: Global) -> Result<String, Fail> {
-    let doors = one_door(alloc)?;
-    match founded(alloc) {
-        Ok(desk) => served_over(rt, alloc, desk, doors),
-        Err(fail) => {
-            drop(doors);
-            Err(fail)
-        }
-    }
-}
-
-#[test]
-fn a_connection_is_served(rt: HostRuntime) -> Result<(), Fail> {
-    check_front(
-        served(&rt, rt.alloc())?,
-        "ended 1 HTTP/1.1 404 Not Found\r\n",
-    )
 }
 
 // The first two are of stream 0, the last is the first one of another. The first block is that of the published vector of

@@ -14,14 +14,14 @@ use std::sync::Wait;
 use std::test::Fail;
 use std::thread::Threads;
 
-const ID_1: &str = "11111111-1111-4111-8111-111111111111";
+pub(crate) const ID_1: &str = "11111111-1111-4111-8111-111111111111";
 
 const ID_2: &str = "22222222-2222-4222-8222-222222222222";
 
 const BODY_LENGTH: usize = 131;
 
 // These texts, one after the other.
-fn joined(alloc: Global, parts: &[&str]) -> Result<String, Fail> {
+pub(crate) fn joined(alloc: Global, parts: &[&str]) -> Result<String, Fail> {
     let mut text = String::new(alloc);
     for part in parts {
         text.push_str(part)?;
@@ -30,7 +30,7 @@ fn joined(alloc: Global, parts: &[&str]) -> Result<String, Fail> {
 }
 
 // A request that puts the statement of an id and of the verb of a digit.
-fn put(alloc: Global, id: &str, verb: &str) -> Result<String, Fail> {
+pub(crate) fn put(alloc: Global, id: &str, verb: &str) -> Result<String, Fail> {
     joined(
         alloc,
         &[
@@ -46,7 +46,7 @@ fn put(alloc: Global, id: &str, verb: &str) -> Result<String, Fail> {
 }
 
 // A request for the statement of an id.
-fn get(alloc: Global, id: &str) -> Result<String, Fail> {
+pub(crate) fn get(alloc: Global, id: &str) -> Result<String, Fail> {
     joined(
         alloc,
         &[
