@@ -33,9 +33,8 @@ pub fn first_of_append<R: Threads + Wait + Sync>(rt: &R, alloc: Global) -> Resul
     Ok(calls.saturating_sub(6))
 }
 
-// The response to the list of that one statement.
-fn listed(alloc: Global) -> Result<String, Fail> {
-    let (head, statement) = SHOWN.split_once("\r\n\r\n").ok_or("no body")?;
+// The response to a list of one statement, by that to the statement alone.
+fn list_of(alloc: Global, head: &str, statement: &str) -> Result<String, Fail> {
     let head = head.replace(alloc, "Length: 342", "Length: 369")?;
     joined(
         alloc,
@@ -46,6 +45,13 @@ fn listed(alloc: Global) -> Result<String, Fail> {
             "],\"more\":\"\"}",
         ],
     )
+}
+
+fn listed(alloc: Global) -> Result<String, Fail> {
+    match SHOWN.split_once("\r\n\r\n") {
+        Some((head, statement)) => list_of(alloc, head, statement),
+        None => Err(Fail::from("no body")),
+    }
 }
 
 // Adds what a receipt tells: the status, the own entry, the one whose doubt was ended, and whether the disk failed.
