@@ -24,7 +24,7 @@ const USAGE: &str = "usage: kilnlime init FILE --admin TOKEN [--base URL] [--lim
        kilnlime intake FILE < STATEMENT
        kilnlime serve FILE ADDRESS --workers W --connections N
        kilnlime load FILE SEED N
-see `bin/kilnlime --help`, or docs/FORMATS.md, section \"Words and statuses\"";
+see `kilnlime --help`, or docs/FORMATS.md, section \"Words and statuses\"";
 
 // The words after the program's name. One that is no UTF-8 makes them no command.
 fn arguments(rt: &(impl Env + AllocGlobal)) -> Result<Vec<Text>, Ending> {
