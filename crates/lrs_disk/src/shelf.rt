@@ -1,4 +1,4 @@
-ghost use Rattle.std.specs.Prelude.{◌≡◌, List, ℕ, Option, Some, IfOk};
+ghost use Rattle.std.specs.Prelude.{◌≡◌, [], List, ℕ, Option, Some, IfOk};
 ghost use Rattle.lrs_disk.specs.Faults.{HasCause};
 ghost use Rattle.lrs_disk.specs.Shelf.{AddsName};
 
@@ -29,6 +29,11 @@ pub trait Shelf: Drop {
         ensures begins { IfOk result (λ disk. Self.Disk.fault_count disk ≡ begins self.old name.now) }
         ensures starts { IfOk result (λ disk. Self.Disk.time disk ≡ starts self.old name.now) }
         ensures settled { IfOk result (λ disk. (c : List ℕ) → Self.Disk.image disk c → Self.Disk.told disk ≡ Some c) }
+        // What is told of the others stays, unless neither of the two disks was there, and both are made of what is left.
+        ensures others { (other : List ℕ) → (other ≡ name.now → ⊥)
+            → (holds self.old name.now ≡ Some [] → holds self.old other ≡ Some [] → ⊥)
+            → (holds self.new other ≡ holds self.old other) × (begins self.new other ≡ begins self.old other)
+            × (starts self.new other ≡ starts self.old other) }
         ensures taken { AddsName (taken self.old) (taken self.new) name.now }
         ensures cause { HasCause (fault_count self.old) (fault_count self.new) result };
 

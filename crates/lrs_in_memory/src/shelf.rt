@@ -138,6 +138,14 @@ impl Shelf for MemShelf {
             ≡ option_map_or disk_faults_of (disk_for self.old name.now) 0) }
         ensures starts { IfOk result (λ disk. moment_of disk ≡ option_map_or moment_of (disk_for self.old name.now) 0) }
         ensures settled { IfOk result IsSettled }
+        ensures others { (other : List ℕ) → (other ≡ name.now → ⊥)
+            → (option_map bytes_of (disk_for self.old name.now) ≡ Some []
+            → option_map bytes_of (disk_for self.old other) ≡ Some [] → ⊥)
+            → (option_map bytes_of (disk_for self.new other) ≡ option_map bytes_of (disk_for self.old other))
+            × (option_map_or disk_faults_of (disk_for self.new other) 0
+            ≡ option_map_or disk_faults_of (disk_for self.old other) 0)
+            × (option_map_or moment_of (disk_for self.new other) 0
+            ≡ option_map_or moment_of (disk_for self.old other) 0) }
         ensures taken { AddsName (taken_of self.old) (taken_of self.new) name.now }
         ensures cause { HasCause (faults_of self.old) (faults_of self.new) result }
         ensures given { IfOk result (λ disk. disk_for self.old name.now ≡ Some disk) }
