@@ -20,10 +20,10 @@ settled_kept old new limit end number ps s from = record {
 }
 
 pub settled_staged : (old new : List ℕ → Type 0) (limit end number : ℕ) (ps : List (List ℕ)) (p : List ℕ) → IsSettled old limit end number ps
-    → ((c : List ℕ) → new c → (b : List ℕ) × old b × (c ≡ written b (end + 1) (body p ++ 0 ∷ []))) → IsDoubtful new limit end (number + 1) ps p
+    → ((c : List ℕ) → new c → (b : List ℕ) × old b × (c ≡ written b (end + 1) (body number p ++ 0 ∷ []))) → IsDoubtful new limit end (number + 1) ps p
 settled_staged old new limit end number ps p s from = record {
   placed = s.placed;
-  each = λ c left. let now = from c left in staged_doubt limit ps p end s.placed.behind c now.0 (s.each now.0 now.1) now.2;
+  each = λ c left. let now = from c left in staged_doubt limit ps p end s.placed.behind c now.0 (s.each now.0 now.1) (now.2 ∙ ap (λ (n : ℕ). written now.0 (end + 1) (body n p ++ 0 ∷ [])) s.counts);
   counts = ap (λ (n : ℕ). n + 1) s.counts;
 }
 
@@ -35,7 +35,7 @@ doubt_kept old new limit end number ps p d from = record {
 }
 
 pub doubt_opened : (old new : List ℕ → Type 0) (limit end number size : ℕ) (ps : List (List ℕ)) (p : List ℕ) → IsDoubtful old limit end number ps p → size ≡ length p → size < 2 ^ 32
-    → ((c : List ℕ) → new c → (b : List ℕ) × old b × (c ≡ written b end (1 ∷ []))) → IsSettled new limit (end + (5 + size)) number (ps ++ p ∷ [])
+    → ((c : List ℕ) → new c → (b : List ℕ) × old b × (c ≡ written b end (1 ∷ []))) → IsSettled new limit (end + (13 + size)) number (ps ++ p ∷ [])
 doubt_opened old new limit end number size ps p d is small from = record {
   placed = placed_push limit end size ps p d.placed is small;
   each = λ c left. let now = from c left in gate_opens limit ps p end d.placed.behind c now.0 (d.each now.0 now.1) now.2;
@@ -71,7 +71,7 @@ settled_read image limit end number ps b s left = stands_read b limit ps (rest_s
 pub doubt_read : (image : List ℕ → Type 0) (limit end number : ℕ) (ps : List (List ℕ)) (p b : List ℕ) → IsDoubtful image limit end number ps p → length p < 2 ^ 32 → image b → payloads_in (settled true end b) ≡ ps ++ p ∷ []
 doubt_read image limit end number ps p b d small left =
     let opened : List ℕ = written b end (1 ∷ []) in
-    stands_read opened limit (ps ++ p ∷ []) (rest_stands limit (end + (5 + length p)) (ps ++ p ∷ []) opened (placed_push limit end (length p) ps p d.placed refl small) (gate_opens limit ps p end d.placed.behind opened b (d.each b left) refl))
+    stands_read opened limit (ps ++ p ∷ []) (rest_stands limit (end + (13 + length p)) (ps ++ p ∷ []) opened (placed_push limit end (length p) ps p d.placed refl small) (gate_opens limit ps p end d.placed.behind opened b (d.each b left) refl))
 
 -- ---- what it stands for
 
@@ -145,7 +145,7 @@ module _ {D : Type 0} (told : D → Option (List ℕ)) (image : D → List ℕ �
   -- an open gate ends the doubt
   pub after_opened : (d0 d1 : D) (limit end number size : ℕ) → IsSound (told d0) (image d0) limit end number (Some size) → TellsAlike (told d0) (told d1)
       → ((c : List ℕ) → image d1 c → (b : List ℕ) × (told d0 ≡ Some b) × (c ≡ written b end (1 ∷ [])))
-      → IsSound (told d1) (image d1) limit (end + (5 + size)) number None × (frames_of told (seen d1 limit (end + (5 + size)) number None) ≡ frames_of told (seen d0 limit end number (Some size)))
+      → IsSound (told d1) (image d1) limit (end + (13 + size)) number None × (frames_of told (seen d1 limit (end + (13 + size)) number None) ≡ frames_of told (seen d0 limit end number (Some size)))
   after_opened d0 d1 limit end number size sound alike from = (
     record {
       least = sound.least;
@@ -156,10 +156,10 @@ module _ {D : Type 0} (told : D → Option (List ℕ)) (image : D → List ℕ �
           let tied = sound.tied old.0 old.1 in
           (tied.0 ++ tied.1 ∷ [], doubt_opened (image d0) (image d1) limit end number size tied.0 tied.1 tied.3 tied.2 (omega (arith, sound.fits.2, sound.most)) was);
     },
-    same_map (λ bytes. payloads_in (settled true end bytes)) (λ bytes. payloads_in (settled false (end + (5 + size)) bytes)) (told d0) (told d1) alike (λ b c told_b told_c.
+    same_map (λ bytes. payloads_in (settled true end bytes)) (λ bytes. payloads_in (settled false (end + (13 + size)) bytes)) (told d0) (told d1) alike (λ b c told_b told_c.
         let tied = sound.tied b told_b in
         let small : length tied.1 < 2 ^ 32 = omega (arith, tied.2, sound.fits.2, sound.most) in
-        settled_read (image d1) limit (end + (5 + size)) number (tied.0 ++ tied.1 ∷ []) c (doubt_opened (image d0) (image d1) limit end number size tied.0 tied.1 tied.3 tied.2 (omega (arith, sound.fits.2, sound.most)) was) (reads d1 c told_c)
+        settled_read (image d1) limit (end + (13 + size)) number (tied.0 ++ tied.1 ∷ []) c (doubt_opened (image d0) (image d1) limit end number size tied.0 tied.1 tied.3 tied.2 (omega (arith, sound.fits.2, sound.most)) was) (reads d1 c told_c)
         ∙ sym (doubt_read (image d0) limit end number tied.0 tied.1 b tied.3 small (reads d0 b told_b))),
   )
     where
@@ -186,8 +186,8 @@ module _ {D : Type 0} (told : D → Option (List ℕ)) (image : D → List ℕ �
   )
 
   -- a staged frame is in doubt
-  pub after_staged : (d0 d1 : D) (limit end number : ℕ) (p : List ℕ) → IsSound (told d0) (image d0) limit end number None → end + 6 + length p ≤ limit → TellsAlike (told d0) (told d1)
-      → ((c : List ℕ) → image d1 c → (b : List ℕ) × (told d0 ≡ Some b) × (c ≡ written b (end + 1) (body p ++ 0 ∷ [])))
+  pub after_staged : (d0 d1 : D) (limit end number : ℕ) (p : List ℕ) → IsSound (told d0) (image d0) limit end number None → end + 14 + length p ≤ limit → TellsAlike (told d0) (told d1)
+      → ((c : List ℕ) → image d1 c → (b : List ℕ) × (told d0 ≡ Some b) × (c ≡ written b (end + 1) (body number p ++ 0 ∷ [])))
       → IsSound (told d1) (image d1) limit end (number + 1) (Some (length p))
       × (frames_of told (seen d1 limit end (number + 1) (Some (length p))) ≡ option_map (λ payloads. payloads ++ p ∷ []) (frames_of told (seen d0 limit end number None)))
   after_staged d0 d1 limit end number p sound fits alike from = (
@@ -207,7 +207,7 @@ module _ {D : Type 0} (told : D → Option (List ℕ)) (image : D → List ℕ �
         ∙ ap (λ (l : List (List ℕ)). l ++ p ∷ []) (sym (settled_read (image d0) limit end number tied.0 b tied.1 (reads d0 b told_b)))),
   )
     where
-      was : (c : List ℕ) → image d1 c → (b : List ℕ) × image d0 b × (c ≡ written b (end + 1) (body p ++ 0 ∷ []))
+      was : (c : List ℕ) → image d1 c → (b : List ℕ) × image d0 b × (c ≡ written b (end + 1) (body number p ++ 0 ∷ []))
       was c left = let now = from c left in (now.0, reads d0 now.0 now.1, now.2)
 
   -- ---- where the gate is
@@ -249,7 +249,7 @@ module _ {D : Type 0} (told : D → Option (List ℕ)) (image : D → List ℕ �
 
 -- what has room after the frames of a journal without doubt has it after the gate
 pub room_behind : {D : Type 0} (disk : D) (limit gate number : ℕ) (doubt : Option ℕ) (p : List ℕ) (held : Journal D) → seen disk limit gate number doubt ≡ held → doubt ≡ None
-    → need_of held p ≤ held.limit → gate + 6 + length p ≤ limit
+    → need_of held p ≤ held.limit → gate + 14 + length p ≤ limit
 room_behind {D} disk limit gate number doubt p held view none fits =
     omega (arith, fits, ap (λ (h : Journal D). h.end) view, ap (λ (h : Journal D). h.limit) view, ap (λ (o : Option ℕ). end_behind gate o) none)
 

@@ -8,4 +8,5 @@ mod Frames
 mod Passing
 mod Untouched
 mod Creating
+mod Opening
 pub mod Unique

@@ -1,10 +1,10 @@
 -- Writes one after the other, and torn writes.
 use Rattle.std.proofs.Common.{◌≡◌, ℕ, ◌+◌, ◌≤◌, ◌<◌, List, [], ◌∷◌, ◌++◌, length, take, drop, sym, ◌∙◌, ap, arith, append_assoc, length-append, length-take}
-use Rattle.std.proofs.lemmas.List.{take_at, drop_at, drop-drop, take-take}
+use Rattle.std.proofs.lemmas.List.{take_all, take_at, drop_all, drop_at, drop-drop, take-take, append-nil}
 use Rattle.lrs_disk.specs.Disk.{written, Torn}
 use Rattle.lrs_journal.specs.Steps.{KeepsUpTo, IsAtGate}
 use Rattle.lrs_journal.specs.Store.{body}
-use Rattle.std.specs.Int.{w32, to_be_bytes}
+use Rattle.std.specs.Int.{w32, w64, to_be_bytes}
 
 -- the front of what was written
 pub written_front : (b : List ℕ) (p : ℕ) (xs : List ℕ) → p ≤ length b → length (take p b ++ xs) ≡ p + length xs
@@ -34,11 +34,24 @@ torn_behind offset at n old le d c was torn = (was.0, was.1, same_front offset a
 pub torn_gate : (offset : ℕ) (old : List ℕ → Type 0) (d c : List ℕ) → IsAtGate offset old d → Torn offset 1 d c → IsAtGate offset old c
 torn_gate offset old d c was torn = (was.0, was.1, torn.before ∙ was.2, torn.after ∙ was.3)
 
--- a length, a payload and a closed gate, written one after the other
-pub staged_is : (b b1 b2 b3 : List ℕ) (p : ℕ) (payload : List ℕ) → p < length b → b1 ≡ written b (p + 1) (to_be_bytes w32 (length payload)) → b2 ≡ written b1 (p + 5) payload
-    → b3 ≡ written b2 (p + 5 + length payload) (0 ∷ []) → b3 ≡ written b (p + 1) (body payload ++ 0 ∷ [])
-staged_is b b1 b2 b3 p payload lt is1 is2 is3 =
-    let word = to_be_bytes w32 (length payload) in
-    let two : b2 ≡ written b (p + 1) (body payload) = is2 ∙ ap (λ (l : List ℕ). written l (p + 5) payload) is1 ∙ written_on b (p + 1) (p + 5) word payload (omega arith) (omega arith) in
-    is3 ∙ ap (λ (l : List ℕ). written l (p + 5 + length payload) (0 ∷ [])) two
-    ∙ written_on b (p + 1) (p + 5 + length payload) (body payload) (0 ∷ []) (omega arith) (omega (arith, length-append word payload))
+-- a head, a payload and a closed gate, written one after the other
+pub staged_is : (b b1 b2 b3 : List ℕ) (p number : ℕ) (payload : List ℕ) → p < length b → b1 ≡ written b (p + 1) (to_be_bytes w32 (length payload) ++ to_be_bytes w64 number)
+    → b2 ≡ written b1 (p + 13) payload → b3 ≡ written b2 (p + 13 + length payload) (0 ∷ []) → b3 ≡ written b (p + 1) (body number payload ++ 0 ∷ [])
+staged_is b b1 b2 b3 p number payload lt is1 is2 is3 =
+    let word = to_be_bytes w32 (length payload) ++ to_be_bytes w64 number in
+    let two : b2 ≡ written b (p + 1) (body number payload) = is2 ∙ ap (λ (l : List ℕ). written l (p + 13) payload) is1 ∙ written_on b (p + 1) (p + 13) word payload (omega arith) (omega arith) in
+    is3 ∙ ap (λ (l : List ℕ). written l (p + 13 + length payload) (0 ∷ [])) two
+    ∙ written_on b (p + 1) (p + 13 + length payload) (body number payload) (0 ∷ []) (omega arith) (omega (arith, length-append word payload))
+
+-- what is written at the end comes after all
+pub at_end : (b : List ℕ) (p : ℕ) (xs : List ℕ) → p ≡ length b → written b p xs ≡ b ++ xs
+at_end b p xs is =
+    ap (λ (l : List ℕ). l ++ xs ++ drop (p + length xs) b) (take_all p b (omega (arith, is)))
+    ∙ ap (λ (l : List ℕ). b ++ xs ++ l) (drop_all (p + length xs) b (omega (arith, is))) ∙ append-nil (b ++ xs)
+
+-- an open gate, a head and a payload, written at the end
+pub laid_is : (b b1 b2 : List ℕ) (p number : ℕ) (payload : List ℕ) → p ≡ length b → b1 ≡ written b p (1 ∷ to_be_bytes w32 (length payload) ++ to_be_bytes w64 number)
+    → b2 ≡ written b1 (p + 13) payload → b2 ≡ b ++ 1 ∷ body number payload
+laid_is b b1 b2 p number payload is is1 is2 =
+    let head = 1 ∷ to_be_bytes w32 (length payload) ++ to_be_bytes w64 number in
+    is2 ∙ ap (λ (l : List ℕ). written l (p + 13) payload) is1 ∙ written_on b p (p + 13) head payload (omega (arith, is)) (omega arith) ∙ at_end b p (head ++ payload) is

@@ -2,9 +2,8 @@
 use Rattle.std.proofs.Common.{◌≡◌, ◌∙◌, ℕ, ◌≤◌, List, Option, Some, refl, subst}
 use Rattle.lrs_disk.specs.Disk.{Elapses, LeavesOnly, Within}
 use Rattle.lrs_disk.proofs.Moments.{started, stayed, now_has, then_run, weaker_run}
-use Rattle.lrs_journal.specs.Create.{IsMade, IsStore, IsUntouched}
+use Rattle.lrs_journal.specs.Create.{IsStore, IsUntouched}
 use Rattle.lrs_journal.specs.Journal.{IsSynced}
-use Rattle.lrs_journal.proofs.Creating.{no_store_made}
 use Rattle.lrs_journal.proofs.Frames.{same_told}
 
 module _ {D : Type 0} (told : D → Option (List ℕ)) (image : D → List ℕ → Type 0) (time : D → ℕ) (since : D → ℕ → List ℕ → Type 0)
@@ -26,15 +25,15 @@ module _ {D : Type 0} (told : D → Option (List ℕ)) (image : D → List ℕ �
   )
 
   -- where there is no store and nothing is pending
-  pub untouched_made : (old new : D) (limit : ℕ) (first x : List ℕ) → IsUntouched told image time since old new → IsSynced told image old → told old ≡ Some x → (IsStore x → ⊥)
-      → LeavesOnly time since old new (IsMade limit first)
-  untouched_made old new limit first x still synced told_x none =
-      weaker_run time since image counts_now only_now old new (image old) (IsMade limit first) still.1 (λ f left.
-      no_store_made limit first f (subst (λ (b : List ℕ). IsStore b → ⊥) (same_told (told old) x f told_x (synced f left)) none))
+  pub untouched_none : (P : List ℕ → Type 0) → ((c : List ℕ) → (IsStore c → ⊥) → P c) → (old new : D) (x : List ℕ) → IsUntouched told image time since old new → IsSynced told image old
+      → told old ≡ Some x → (IsStore x → ⊥) → LeavesOnly time since old new P
+  untouched_none P without old new x still synced told_x none =
+      weaker_run time since image counts_now only_now old new (image old) P still.1 (λ f left.
+      without f (subst (λ (b : List ℕ). IsStore b → ⊥) (same_told (told old) x f told_x (synced f left)) none))
 
   -- and a store is made then
-  pub made_then : (old mid new : D) (limit : ℕ) (first x : List ℕ) → IsUntouched told image time since old mid → IsSynced told image old → told old ≡ Some x → (IsStore x → ⊥)
-      → (IsSynced told image mid → LeavesOnly time since mid new (IsMade limit first)) → LeavesOnly time since old new (IsMade limit first)
-  made_then old mid new limit first x still synced told_x none made =
-      then_run time since image counts_now only_now old mid new (IsMade limit first) (IsMade limit first) (untouched_made old mid limit first x still synced told_x none)
+  pub made_then : (P : List ℕ → Type 0) → ((c : List ℕ) → (IsStore c → ⊥) → P c) → (old mid new : D) (x : List ℕ) → IsUntouched told image time since old mid → IsSynced told image old
+      → told old ≡ Some x → (IsStore x → ⊥) → (IsSynced told image mid → LeavesOnly time since mid new P) → LeavesOnly time since old new P
+  made_then P without old mid new x still synced told_x none made =
+      then_run time since image counts_now only_now old mid new P P (untouched_none P without old mid x still synced told_x none)
       (made (λ f left. still.0 ∙ synced f (now_has time since image counts_now only_now old mid (image old) still.1 f left))) (λ f p. p)

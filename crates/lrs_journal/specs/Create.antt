@@ -1,7 +1,8 @@
 -- When a store is made on a disk.
-use Rattle.std.specs.Prelude.{◌≡◌, ◌≢◌, ◌⊎◌, ◌<◌, ℕ, List, [], ◌∷◌, length, get_or, take, drop, Option}
+use Rattle.std.specs.Prelude.{◌≡◌, ◌≢◌, ◌<◌, ℕ, List, [], ◌∷◌, length, get_or, take, drop, Option}
 use Rattle.lrs_disk.specs.Disk.{LeavesOnly}
-use Rattle.lrs_journal.specs.Store.{magic, need_at, HasHeader, Stands}
+use Rattle.lrs_journal.specs.Builder.{IsBuilt}
+use Rattle.lrs_journal.specs.Store.{magic, need_at}
 use Rattle.lrs_journal.specs.declared.create.CreateRefused.{CreateRefused}
 use Rattle.lrs_journal.specs.declared.create.CreateRefused.TheVariants as refused
 use Rattle.lrs_journal.specs.declared.sizes.TheConstants.{HEADER}
@@ -31,7 +32,7 @@ need_of_first first = need_at HEADER first
 
 -- no open header, or the one frame
 abbrev pub IsMade : ℕ → List ℕ → List ℕ → Type 0
-IsMade limit first bytes = ((other : ℕ) → HasHeader bytes other → ⊥) ⊎ Stands bytes limit (first ∷ [])
+IsMade limit first bytes = IsBuilt limit (first ∷ []) bytes
 
 -- nothing was written
 abbrev pub IsUntouched : {D : Type 0} → (D → Option (List ℕ)) → (D → List ℕ → Type 0) → (D → ℕ)

@@ -1,4 +1,5 @@
 pub mod Store
+pub mod Builder
 pub mod Replay
 pub mod Steps
 pub mod Journal

@@ -1,12 +1,13 @@
 -- What a crash in a step leaves, and what a journal's fields are.
 use Rattle.std.specs.Prelude.{◌≡◌, ◌≢◌, ◌⊎◌, ◌≤◌, ◌+◌, ℕ, List, [], ◌∷◌, ◌++◌, length, take, drop, get_or, Option, Some}
-use Rattle.std.specs.Prelude.{None, Bool, true}
-use Rattle.std.specs.Int.{w64, to_be_bytes}
-use Rattle.lrs_disk.specs.Disk.{Cut}
+use Rattle.std.specs.Prelude.{None, Bool, true, false}
+use Rattle.lrs_disk.specs.Disk.{written, Cut}
 use Rattle.std.specs.List.{AllByRecursion}
-use Rattle.lrs_journal.specs.Store.{magic, store, body, IsPayload, IsEnd}
+use Rattle.lrs_journal.specs.Store.{store, body, IsPayload, IsEnd}
+use Rattle.lrs_journal.specs.Builder.{shut_store}
 use Rattle.lrs_journal.specs.Replay.{HasReadTo}
-use Rattle.lrs_journal.specs.declared.sizes.TheConstants.{FRAME_HEAD, LEAST_BYTES, MOST_BYTES}
+use Rattle.lrs_journal.specs.declared.sizes.Format.{Format}
+use Rattle.lrs_journal.specs.declared.sizes.TheConstants.{FRAME_HEAD, HEADER, LEAST_BYTES, MOST_BYTES}
 
 -- a read of the disk gives these bytes
 abbrev pub GivesBytes : {D : Type 0} → (D → Option (List ℕ)) → D → List ℕ → Type 0
@@ -37,8 +38,8 @@ AtRest limit payloads bytes = (rest : List ℕ) × (bytes ≡ store limit payloa
 
 -- the same with one more whole frame, whose gate may be anything
 abbrev pub InDoubt : ℕ → List (List ℕ) → List ℕ → List ℕ → Type 0
-InDoubt limit payloads payload bytes =
-    (gate : ℕ) × (rest : List ℕ) × (bytes ≡ store limit payloads ++ gate ∷ body payload ++ 0 ∷ rest)
+InDoubt limit payloads payload bytes = (gate : ℕ) × (rest : List ℕ)
+    × (bytes ≡ store limit payloads ++ gate ∷ body (length payloads) payload ++ 0 ∷ rest)
 
 -- the offset of the first gate after these payloads
 pub record IsEndOffset (limit offset : ℕ) (payloads : List (List ℕ)) : Type 0 where
@@ -85,14 +86,14 @@ pub record IsSound (told : Option (List ℕ)) (image : List ℕ → Type 0) (lim
   pub tied : (b : List ℕ) → told ≡ Some b → FitsFields doubt image limit end number
 
 -- What is true of a replay's fields.
-pub record IsReplay (told : Option (List ℕ)) (image : List ℕ → Type 0) (limit size offset number : ℕ)
+pub record IsReplay (f : Format) (told : Option (List ℕ)) (image : List ℕ → Type 0) (limit size offset number : ℕ)
     (ended : Bool) : Type 0 where
   pub least : LEAST_BYTES ≤ limit
   pub most : limit ≤ MOST_BYTES
   pub few : number ≤ offset
   pub synced : (c : List ℕ) → image c → told ≡ Some c
   pub size_is : (b : List ℕ) → told ≡ Some b → size ≡ length b
-  pub tied : (b : List ℕ) → told ≡ Some b → (payloads : List (List ℕ)) × HasReadTo b limit offset number payloads
+  pub tied : (b : List ℕ) → told ≡ Some b → (payloads : List (List ℕ)) × HasReadTo f b limit offset number payloads
   pub ends : (b : List ℕ) → told ≡ Some b → ended ≡ true → IsEnd (drop offset b)
 
 -- at most one byte, or a first one that isn't 1
@@ -102,10 +103,33 @@ IsBlank c = (length c ≤ 1) ⊎ (get_or c 0 0 ≢ 1)
 abbrev pub IsShort : List ℕ → Type 0
 IsShort c = length c ≤ 1
 
+-- a closed gate in front
+abbrev pub IsShut : List ℕ → Type 0
+IsShut c = take 1 c ≡ 0 ∷ []
+
 -- one of the old images, or its first part with the first byte
 abbrev pub IsCutShort : (List ℕ → Type 0) → List ℕ → Type 0
 IsCutShort old c = (d : List ℕ) × old d × Cut 1 d c
 
--- what follows the header's gate
-abbrev pub behind_gate : ℕ → List ℕ
-behind_gate limit = magic ++ 1 ∷ to_be_bytes w64 limit ++ 1 ∷ []
+-- one of the old images, but for the byte at this offset; or what was given, with a 0 there, but for the first byte
+abbrev pub IsUnlocking : ℕ → (List ℕ → Type 0) → (List ℕ → Type 0) → List ℕ → Type 0
+IsUnlocking offset given old c = IsAtGate offset old c
+    ⊎ ((b : List ℕ) × given b × (drop 1 c ≡ drop 1 (written b offset (0 ∷ []))))
+
+-- The bytes of a disk whose header is shut, after frames of these payloads.
+pub record IsLaid (bytes : List ℕ) (limit end number : ℕ) (payloads : List (List ℕ)) : Type 0 where
+  pub placed : IsEndOffset limit end payloads
+  pub counts : number ≡ length payloads
+  pub is : bytes ≡ shut_store limit payloads
+
+-- What is true of a builder's fields.
+pub record IsBuilder (told : Option (List ℕ)) (image : List ℕ → Type 0) (limit end number : ℕ)
+    (broken : Bool) : Type 0 where
+  pub least : LEAST_BYTES ≤ limit
+  pub most : limit ≤ MOST_BYTES
+  pub few : number ≤ end
+  pub far : HEADER ≤ end
+  pub fits : end + 1 ≤ limit
+  pub shut : (c : List ℕ) → image c → IsShut c
+  pub tied : broken ≡ false → (b : List ℕ) → told ≡ Some b
+      → (payloads : List (List ℕ)) × IsLaid b limit end number payloads

@@ -4,14 +4,14 @@ ghost use Rattle.std.specs.Option.{ForSome};
 ghost use Rattle.lrs_disk.specs.Disk.{LeavesOnly};
 ghost use Rattle.lrs_disk.specs.Faults.{HasCause};
 ghost use Rattle.lrs_journal.specs.Journal.{frames_of, IsJournal, IsSynced, TellsAlike, HasCount};
-ghost use Rattle.lrs_journal.specs.Steps.{GivesBytes, KeepsUpTo, AtRest, IsBlank, IsShort, IsCutShort, behind_gate};
+ghost use Rattle.lrs_journal.specs.Steps.{GivesBytes, IsBlank};
 ghost use Rattle.lrs_journal.specs.Create.{IsStore, IsForeign, IsOpenTo, IsCreateRefused, IsMade, IsUntouched, need_of_first};
 ghost use Rattle.lrs_journal.specs.declared.create.CreateRefused.TheVariants as CreateRefused;
 ghost use Rattle.lrs_journal.specs.Store.{IsLimit};
 
 use crate::Journal;
+use crate::builder::start;
 use crate::sizes::{FRAME_HEAD, HEADER};
-use crate::steps::{stage, write_gate};
 use lrs_disk::{Disk, Failed};
 
 /// Why no store was made.
@@ -23,7 +23,7 @@ pub enum CreateRefused {
     Foreign,
     /// The file would need more bytes than the limit.
     Full { need: u64, limit: u64 },
-    /// The disk failed. It holds no store now, or the whole new one.
+    /// The disk failed. It is as it was if no store may be made on it, else it holds no store now, or the whole new one.
     Failed,
 }
 
@@ -56,66 +56,15 @@ fn look(head: &[u8]) -> Result<(), CreateRefused>
     Ok(())
 }
 
-// Cuts a disk to one byte.
-fn shorten<D: Disk>(disk: &mut D, size: u64) -> Result<(), Failed>
-    requires size { (b : List ℕ) → GivesBytes D.told disk.old b → size ≡ length b }
-    ensures short { OnOk result ((b : List ℕ) → GivesBytes D.told disk.new b → IsShort b) }
-    ensures synced { OnOk result (IsSynced D.told D.image disk.old → IsSynced D.told D.image disk.new) }
-    ensures tells { TellsAlike (D.told disk.old) (D.told disk.new) }
-    ensures any_moment { LeavesOnly D.time D.image_since disk.old disk.new (IsCutShort (D.image disk.old)) }
-    ensures cause { HasCause (D.fault_count disk.old) (D.fault_count disk.new) result }
-{
-    if size <= 1 {
-        return Ok(());
-    }
-    disk.cut(1)?;
-    disk.sync()
-}
-
-// Writes the header after its gate, and the first frame's open gate.
-fn head<D: Disk>(disk: &mut D, limit: u64) -> Result<(), Failed>
-    requires shut { (b : List ℕ) → GivesBytes D.told disk.old b → b ≡ 0 ∷ [] }
-    ensures written { OnOk result ((b : List ℕ) → GivesBytes D.told disk.new b → b ≡ 0 ∷ behind_gate limit) }
-    ensures tells { TellsAlike (D.told disk.old) (D.told disk.new) }
-    ensures any_moment { LeavesOnly D.time D.image_since disk.old disk.new (KeepsUpTo 1 (D.image disk.old)) }
-    ensures cause { HasCause (D.fault_count disk.old) (D.fault_count disk.new) result }
-{
-    let [a, b, c, d, e, f, g, h] = limit.to_be_bytes();
-    disk.write_at(
-        1,
-        &[76, 82, 83, 74, 82, 78, 76, 1, a, b, c, d, e, f, g, h, 1],
-    )
-}
-
-// Makes a store of one frame on a disk that has none.
-fn build<D: Disk>(disk: &mut D, size: u64, limit: u64, first: &[u8]) -> Result<(), Failed>
-    requires limit { IsLimit limit }
-    requires first { need_of_first first.now < 2 ^ 32 }
-    requires blank { (b : List ℕ) → GivesBytes D.told disk.old b → IsBlank b }
-    requires size { (b : List ℕ) → GivesBytes D.told disk.old b → size ≡ length b }
-    ensures made { OnOk result ((c : List ℕ) → D.image disk.new c → AtRest limit (first.now ∷ []) c) }
-    ensures tells { TellsAlike (D.told disk.old) (D.told disk.new) }
-    ensures later { D.time disk.old ≤ D.time disk.new }
-    ensures any_moment { IsSynced D.told D.image disk.old → LeavesOnly D.time D.image_since disk.old disk.new
-        (IsMade limit first.now) }
-    ensures cause { HasCause (D.fault_count disk.old) (D.fault_count disk.new) result }
-{
-    shorten(disk, size)?;
-    write_gate(disk, 0, 0)?;
-    head(disk, limit)?;
-    stage(disk, HEADER, first)?;
-    write_gate(disk, 0, 1)
-}
-
 // Looks whether a store may be made on a disk, and answers the number of its bytes.
-fn inspect<D: Disk>(disk: &mut D) -> Result<u64, CreateRefused>
+pub(crate) fn inspect<D: Disk>(disk: &mut D) -> Result<u64, CreateRefused>
     ensures size { IfOk result (λ size. ForSome (D.told disk.old) (λ bytes. size ≡ length bytes)) }
     ensures free { IsOk result → ForSome (D.told disk.old) IsOpenTo }
     ensures refused { IfErr result (λ e. ForSome (D.told disk.old) (λ bytes. IsCreateRefused bytes e)) }
     ensures full { (need limit : ℕ) → result ≢ Err (CreateRefused.Full need limit) }
     ensures untouched { IsUntouched D.told D.image D.time D.image_since disk.old disk.new }
     ensures cause { HasCount (D.fault_count disk.old) (D.fault_count disk.new) (IsErrOf result CreateRefused.Failed)
-        (IsOk result) }
+        (result ≢ Err CreateRefused.Failed) }
 {
     let size = disk.len()?;
     let mut head = [0; 8];
@@ -135,7 +84,7 @@ fn ready<D: Disk>(disk: &mut D, limit: u64, first: &[u8]) -> Result<u64, CreateR
         → (need ≡ need_of_first first.now) × (most ≡ limit) × (limit < need) }
     ensures untouched { IsUntouched D.told D.image D.time D.image_since disk.old disk.new }
     ensures cause { HasCount (D.fault_count disk.old) (D.fault_count disk.new) (IsErrOf result CreateRefused.Failed)
-        (IsOk result) }
+        (result ≢ Err CreateRefused.Failed) }
 {
     let size = inspect(disk)?;
     let need = HEADER + FRAME_HEAD + 1 + first.len() as u64;
@@ -145,30 +94,45 @@ fn ready<D: Disk>(disk: &mut D, limit: u64, first: &[u8]) -> Result<u64, CreateR
     Ok(size)
 }
 
-// Makes a store of one frame on a disk, if there may be one.
-fn make<D: Disk>(disk: &mut D, limit: u64, first: &[u8]) -> Result<(), CreateRefused>
+// Makes a store of one frame on a disk of so many bytes that is open to it.
+fn found<D: Disk>(
+    disk: D,
+    size: u64,
+    limit: u64,
+    first: &[u8],
+) -> Result<Journal<D>, (CreateRefused, D)>
     requires limit { IsLimit limit }
-    requires first { length first.now < 2 ^ 32 }
-    ensures made { IsOk result → (c : List ℕ) → D.image disk.new c → AtRest limit (first.now ∷ []) c }
-    ensures free { IsOk result → ForSome (D.told disk.old) IsOpenTo }
-    ensures room { IsOk result → need_of_first first.now ≤ limit }
-    ensures refused { IfErr result (λ e. ForSome (D.told disk.old) (λ bytes. IsCreateRefused bytes e)) }
-    ensures full { (need most : ℕ) → IsErrOf result (CreateRefused.Full need most)
-        → (need ≡ need_of_first first.now) × (most ≡ limit) × (limit < need) }
-    ensures spared { IfErr result (λ e. e ≢ CreateRefused.Failed
-        → IsUntouched D.told D.image D.time D.image_since disk.old disk.new) }
-    ensures store { ForSome (D.told disk.old) (λ bytes. (IsOpenTo bytes → ⊥)
-        → IsUntouched D.told D.image D.time D.image_since disk.old disk.new) }
-    ensures tells { TellsAlike (D.told disk.old) (D.told disk.new) }
-    ensures later { D.time disk.old ≤ D.time disk.new }
-    ensures any_moment { IsSynced D.told D.image disk.old → ForSome (D.told disk.old) (λ bytes. (IsStore bytes → ⊥)
-        → LeavesOnly D.time D.image_since disk.old disk.new (IsMade limit first.now)) }
-    ensures cause { HasCount (D.fault_count disk.old) (D.fault_count disk.new) (IsErrOf result CreateRefused.Failed)
-        (IsOk result) }
+    requires room { need_of_first first.now ≤ limit }
+    requires blank { (b : List ℕ) → GivesBytes D.told disk b → IsBlank b }
+    requires size { (b : List ℕ) → GivesBytes D.told disk b → size ≡ length b }
+    ensures made { IfOk result (λ journal. frames_of D.told journal ≡ option_map
+        (λ _. first.now ∷ []) (D.told disk)) }
+    ensures fields { IfOk result (λ journal. (journal.doubt ≡ false) × (journal.limit ≡ limit)
+        × (journal.end ≡ HEADER + FRAME_HEAD + length first.now) × (journal.number ≡ 1)) }
+    ensures sound { IfOk result (IsJournal D.told D.image) }
+    ensures failed { IfErr result (λ e. e.0 ≡ CreateRefused.Failed) }
+    ensures tells { IfErr result (λ e. TellsAlike (D.told disk) (D.told e.1)) }
+    ensures later { IfOk result (λ journal. D.time disk ≤ D.time journal.disk) }
+    ensures later_err { IfErr result (λ e. D.time disk ≤ D.time e.1) }
+    ensures any_moment { IfOk result (λ journal. IsSynced D.told D.image disk
+        → LeavesOnly D.time D.image_since disk journal.disk (IsMade limit first.now)) }
+    ensures any_moment_err { IfErr result (λ e. IsSynced D.told D.image disk
+        → LeavesOnly D.time D.image_since disk e.1 (IsMade limit first.now)) }
+    ensures kept { IfOk result (λ journal. D.fault_count journal.disk ≡ D.fault_count disk) }
+    ensures cause { IfErr result (λ e. HasCount (D.fault_count disk) (D.fault_count e.1) (e.0
+        ≡ CreateRefused.Failed) (e.0 ≢ CreateRefused.Failed)) }
 {
-    let size = ready(disk, limit, first)?;
-    build(disk, size, limit, first)?;
-    Ok(())
+    let mut builder = match start(disk, size, limit) {
+        Err(refused) => return Err(refused),
+        Ok(builder) => builder,
+    };
+    match builder.add(first) {
+        Err(_) => Err((CreateRefused::Failed, builder.into_disk())),
+        Ok(()) => match builder.open() {
+            Err((_, disk)) => Err((CreateRefused::Failed, disk)),
+            Ok(journal) => Ok(journal),
+        },
+    }
 }
 
 impl<D: Disk> Journal<D> {
@@ -204,18 +168,12 @@ impl<D: Disk> Journal<D> {
             (λ bytes. (IsStore bytes → ⊥) → LeavesOnly D.time D.image_since disk e.1 (IsMade limit first.now))) }
         ensures kept { IfOk result (λ journal. D.fault_count journal.disk ≡ D.fault_count disk) }
         ensures cause { IfErr result (λ e. HasCount (D.fault_count disk) (D.fault_count e.1) (e.0
-            ≡ CreateRefused.Failed) ⊥) }
+            ≡ CreateRefused.Failed) (e.0 ≢ CreateRefused.Failed)) }
     {
         let mut disk = disk;
-        match make(&mut disk, limit, first) {
+        match ready(&mut disk, limit, first) {
             Err(refused) => Err((refused, disk)),
-            Ok(()) => Ok(Journal {
-                disk,
-                limit,
-                gate: HEADER + FRAME_HEAD + first.len() as u64,
-                number: 1,
-                doubt: None,
-            }),
+            Ok(size) => found(disk, size, limit, first),
         }
     }
 }

@@ -1,8 +1,8 @@
-ghost use Rattle.std.specs.Prelude.{◌≡◌, ◌<◌, ◌≤◌, ◌+◌, ◌-◌, ◌++◌, [], ◌∷◌, List, ℕ, length, Some, None, Ok, Err, IfOk, IsOk, IsErr, IsErrOf, true, false, IfErr};
+ghost use Rattle.std.specs.Prelude.{◌≡◌, ◌<◌, ◌≤◌, ◌+◌, ◌-◌, ◌^◌, ◌++◌, [], ◌∷◌, List, ℕ, length, Some, None, Ok, Err, IfOk, IsOk, IsErr, IsErrOf, true, false, IfErr};
 ghost use Rattle.std.specs.Option.{ForSome};
 ghost use Rattle.lrs_disk.specs.Disk.{LeavesOnly};
 ghost use Rattle.lrs_disk.specs.Faults.{HasCause};
-ghost use Rattle.lrs_journal.specs.Store.{need_told, IsBeforeOrAfter, Stands};
+ghost use Rattle.lrs_journal.specs.Store.{need_at, need_told, IsBeforeOrAfter, Stands};
 ghost use Rattle.lrs_journal.specs.Journal.{frames_of, need_of, StandsForFrames, IsJournal, IsAppended, IsAppendFailed, IsUnchanged, HasCount, MakesAtMost, MakesMore, Stores};
 ghost use Rattle.lrs_journal.specs.declared.journal.AppendRefused.TheVariants as AppendRefused;
 
@@ -16,7 +16,7 @@ use std::marker::Model;
 pub enum AppendRefused {
     /// The file would need more bytes than its header allows.
     Full { need: u64, limit: u64 },
-    /// The disk failed. The journal may be in doubt now.
+    /// The disk failed. A journal may be in doubt now, and a builder only gives its disk back.
     Failed,
 }
 
@@ -46,6 +46,22 @@ impl From<Failed> for AppendRefused {
     fn from(_: Failed) -> Self {
         AppendRefused::Failed
     }
+}
+
+/// Whether a frame of this payload has room at the end of a file that may have so many bytes.
+pub(crate) fn has_room(end: u64, limit: u64, payload: &[u8]) -> Result<(), Full>
+    requires { limit < 2 ^ 64 - 1 }
+    ensures fits { IsOk result → need_at end payload.now ≤ limit }
+    ensures full { IsErr result → limit < need_at end payload.now }
+    ensures told { IfErr result (λ full. (full.need ≡ need_told end payload.now) × (full.limit ≡ limit)) }
+{
+    let need = end
+        .saturating_add(FRAME_HEAD + 1)
+        .saturating_add(payload.len() as u64);
+    if need > limit {
+        return Err(Full { need, limit });
+    }
+    Ok(())
 }
 
 /// A list of frames on a disk, open for more.
@@ -118,16 +134,7 @@ impl<D: Disk> Journal<D> {
             None => self.gate,
             Some(size) => self.gate + FRAME_HEAD + size,
         };
-        let need = end
-            .saturating_add(FRAME_HEAD + 1)
-            .saturating_add(payload.len() as u64);
-        if need > self.limit {
-            return Err(Full {
-                need,
-                limit: self.limit,
-            });
-        }
-        Ok(())
+        has_room(end, self.limit, payload)
     }
 
     /// How often a call of the disk has failed.
@@ -223,7 +230,7 @@ impl<D: Disk> Journal<D> {
             (IsErrOf result AppendRefused.Failed) (IsOk result) }
     {
         self.room(payload)?;
-        stage(&mut self.disk, self.gate, payload)?;
+        stage(&mut self.disk, self.gate, self.number, payload)?;
         let number = self.number;
         self.number += 1;
         self.doubt = Some(payload.len() as u64);

@@ -5,16 +5,18 @@ ghost use Rattle.std.specs.Option.{ForSome};
 ghost use Rattle.lrs_disk.specs.Disk.{LeavesOnly};
 ghost use Rattle.lrs_disk.specs.Faults.{HasCause, Rises};
 ghost use Rattle.lrs_journal.specs.Create.{IsUntouched};
-ghost use Rattle.lrs_journal.specs.Store.{header, HasHeader, Stands, IsDamaged};
+ghost use Rattle.lrs_journal.specs.Store.{head_of, header_in, number_in, version_of, HasHeader, HasHeaderIn, HasNoHeader, IsLimit, Stands, StandsIn, IsDamagedIn};
 ghost use Rattle.lrs_journal.specs.Journal.{frames_of, IsJournal, IsSynced, Stores, TellsAlike, HasCount};
 ghost use Rattle.lrs_journal.specs.Steps.{GivesBytes};
 ghost use Rattle.lrs_journal.specs.Replay.{HasRead, IsAhead, IsFetched, IsFrameWithin, HasNextOffset, IsPassed, HasSameOffset};
+ghost use Rattle.lrs_journal.specs.declared.sizes.Format.{Format};
+ghost use Rattle.lrs_journal.specs.declared.sizes.Format.TheVariants as Formats;
 ghost use Rattle.lrs_journal.specs.declared.replay.RecoverRefused.TheVariants as RecoverRefused;
 ghost use Rattle.lrs_journal.specs.declared.replay.Ahead.TheVariants as Ahead;
 ghost use Rattle.lrs_journal.specs.declared.replay.ReplayRefused.TheVariants as ReplayRefused;
 
 use crate::Journal;
-use crate::sizes::{FRAME_HEAD, HEADER, LEAST_BYTES, MOST_BYTES};
+use crate::sizes::{FRAME_HEAD, Format, HEADER, LEAST_BYTES, MOST_BYTES};
 use crate::steps::close_end;
 use lrs_disk::{Disk, Failed};
 use std::alloc::AllocError;
@@ -25,13 +27,15 @@ use std::marker::Model;
 pub enum RecoverRefused {
     /// The disk doesn't begin with an open header.
     NotAStore,
+    /// The header is of the old format, which is read by `recover_any` alone.
+    OldFormat,
     Failed,
 }
 
 /// Why there is no next frame.
 #[derive(Clone, Copy, Debug, PartialEq, Eq)]
 pub enum ReplayRefused {
-    /// The gate of frame k is open, and the frame isn't whole.
+    /// The gate of frame k is open, and the frame isn't whole or tells another number.
     Damaged { k: u64 },
     Failed,
     Memory,
@@ -66,12 +70,31 @@ fn number_of(word: [u8; 8]) -> u64
     u64::from_be_bytes(word)
 }
 
-// The limit that an open header tells.
-fn limit_of(head: &[u8]) -> Option<u64>
+// The format of a version.
+fn format_of(version: u8) -> Option<Format>
+    ensures found { IfSome result (λ f. version_of f ≡ version) }
+    ensures none { IsNone result → (f : Format) → version_of f ≢ version }
+{
+    match version {
+        1 => Some(Format::One),
+        2 => Some(Format::Two),
+        _ => None,
+    }
+}
+
+// What an open header tells.
+#[derive(Clone, Copy)]
+struct Header {
+    format: Format,
+    limit: u64,
+}
+
+// What the open header at the beginning of these bytes tells.
+fn header_of(head: &[u8]) -> Option<Header>
     requires { length head.now ≤ HEADER }
-    ensures found { IfSome result (λ limit. (head.now ≡ header limit) × (LEAST_BYTES ≤ limit)
-        × (limit ≤ MOST_BYTES)) }
-    ensures none { IsNone result → (limit : ℕ) → HasHeader head.now limit → ⊥ }
+    ensures found { IfSome result (λ h. (head.now ≡ header_in h.format h.limit) × (LEAST_BYTES ≤ h.limit)
+        × (h.limit ≤ MOST_BYTES)) }
+    ensures none { IsNone result → HasNoHeader head.now }
 {
     match head {
         [
@@ -83,7 +106,7 @@ fn limit_of(head: &[u8]) -> Option<u64>
             b'R',
             b'N',
             b'L',
-            1,
+            version,
             a,
             b,
             c,
@@ -95,9 +118,11 @@ fn limit_of(head: &[u8]) -> Option<u64>
         ] => {
             let limit = number_of([*a, *b, *c, *d, *e, *f, *g, *h]);
             if limit < LEAST_BYTES || limit > MOST_BYTES {
-                None
-            } else {
-                Some(limit)
+                return None;
+            }
+            match format_of(*version) {
+                Some(format) => Some(Header { format, limit }),
+                None => None,
             }
         }
         _ => None,
@@ -109,43 +134,78 @@ fn limit_of(head: &[u8]) -> Option<u64>
 enum Ahead {
     // No open gate: the list ends.
     End,
-    // An open gate and no whole frame.
+    // An open gate and no whole frame with the number that comes next.
     Torn,
     // An open gate and a payload of so many bytes.
     Frame { size: u32 },
 }
 
-// What stands ahead, by its gate and its length. So many of a frame's first bytes are there, and so many bytes in all.
-fn ahead_of(gate: u8, size: u32, number: usize, left: u64) -> Ahead
-    ensures found { (bytes : List ℕ) → number ≡ min FRAME_HEAD (length bytes)
-        → take number (gate ∷ to_be_bytes w32 size) ≡ take number bytes → left ≡ length bytes → IsAhead bytes result }
-    ensures fits { (n : ℕ) → result ≡ Ahead.Frame n → (n < 2 ^ 32) × (FRAME_HEAD + n ≤ left) }
+// Whether a frame with this number may be frame k. In the old format there is no number.
+fn has_number(format: Format, number: u64, k: u64) -> bool
+    ensures yes { result ≡ true → format ≡ Formats.Two → number ≡ k }
+    ensures no { result ≡ false → (format ≡ Formats.Two) × (number ≢ k) }
 {
-    // No byte, or a gate that is the last byte.
-    if number < 2 || gate != 1 {
-        return Ahead::End;
+    match format {
+        Format::One => true,
+        Format::Two => number == k,
     }
-    if number < FRAME_HEAD as usize || left < FRAME_HEAD + u64::from(size) {
-        return Ahead::Torn;
-    }
-    Ahead::Frame { size }
 }
 
-// Looks at the gate and the length that stand at an offset of a disk of so many bytes.
-fn look<D: Disk>(disk: &mut D, offset: u64, total: u64) -> Result<Ahead, Failed>
+// What stands ahead where frame k would, by its first bytes. So many bytes are there in all.
+fn ahead_of(format: Format, k: u64, gate: u8, size: u32, number: u64, left: u64) -> Ahead
+    ensures found { (bytes : List ℕ) → left ≡ length bytes
+        → take (min FRAME_HEAD left) (gate ∷ to_be_bytes w32 size ++ to_be_bytes w64 number)
+        ≡ take (min FRAME_HEAD left) bytes → IsAhead format k bytes result }
+    ensures fits { (n : ℕ) → result ≡ Ahead.Frame n → (n < 2 ^ 32) × (head_of format + n ≤ left) }
+{
+    // No byte, or a gate that is the last byte.
+    if left < 2 || gate != 1 {
+        return Ahead::End;
+    }
+    let bytes = format.frame_head() + u64::from(size);
+    if left < bytes {
+        return Ahead::Torn;
+    }
+    if has_number(format, number, k) {
+        return Ahead::Frame { size };
+    }
+    Ahead::Torn
+}
+
+// How many bytes are left, if so many of a frame's first bytes were read.
+fn left_of(left: u64, there: usize) -> u64
+    ensures same { there ≡ min FRAME_HEAD left → result ≡ left }
+    ensures most { result ≤ left }
+{
+    if there < FRAME_HEAD as usize {
+        return left.min(there as u64);
+    }
+    left
+}
+
+// Looks at the first bytes of frame k at an offset of a disk of so many bytes.
+fn look<D: Disk>(
+    disk: &mut D,
+    format: Format,
+    k: u64,
+    offset: u64,
+    total: u64,
+) -> Result<Ahead, Failed>
     requires { (b : List ℕ) → GivesBytes D.told disk.old b → total ≡ length b }
-    ensures found { IfOk result (λ ahead. ForSome (D.told disk.old) (λ bytes. IsAhead (drop offset bytes) ahead)) }
+    ensures found { IfOk result (λ ahead. ForSome (D.told disk.old)
+        (λ bytes. IsAhead format k (drop offset bytes) ahead)) }
     ensures fits { IfOk result (λ ahead. (size : ℕ) → ahead ≡ Ahead.Frame size → (size < 2 ^ 32)
-        × (offset + FRAME_HEAD + size ≤ total)) }
+        × (offset + head_of format + size ≤ total)) }
     ensures untouched { IsUntouched D.told D.image D.time D.image_since disk.old disk.new }
     ensures cause { HasCause (D.fault_count disk.old) (D.fault_count disk.new) result }
 {
     let mut head = [0; FRAME_HEAD as usize];
-    let number = disk.read_at(offset, &mut head)?;
-    let [gate, a, b, c, d] = head;
+    let there = disk.read_at(offset, &mut head)?;
+    let [gate, a, b, c, d, e, f, g, h, i, j, l, m] = head;
     let size = word_of([a, b, c, d]);
-    let left = total.saturating_sub(offset);
-    Ok(ahead_of(gate, size, number, left))
+    let number = number_of([e, f, g, h, i, j, l, m]);
+    let left = left_of(total.saturating_sub(offset), there);
+    Ok(ahead_of(format, k, gate, size, number, left))
 }
 
 // Makes a vector so long. What it holds then is of no use, so what it held stays, and no more than it lacks is added.
@@ -196,40 +256,43 @@ fn load<D: Disk>(
     Ok(Ahead::Torn)
 }
 
-// Reads the frame that stands at an offset of a disk of so many bytes into a vector, if it is whole.
+// Reads frame k, which stands at an offset of a disk of so many bytes, into a vector, if it is whole.
 fn fetch<D: Disk>(
     disk: &mut D,
+    format: Format,
+    k: u64,
     offset: u64,
     total: u64,
     into: &mut Vec<u8>,
 ) -> Result<Ahead, ReplayRefused>
     requires { (b : List ℕ) → GivesBytes D.told disk.old b → total ≡ length b }
     ensures found { IfOk result (λ ahead. ForSome (D.told disk.old)
-        (λ bytes. IsFetched bytes offset ahead into.new.items)) }
+        (λ bytes. IsFetched format k bytes offset ahead into.new.items)) }
     ensures fits { IfOk result (λ ahead. (size : ℕ) → ahead ≡ Ahead.Frame size
-        → IsFrameWithin offset total size into.new.items) }
-    ensures damaged { (k : ℕ) → result ≢ Err (ReplayRefused.Damaged k) }
+        → IsFrameWithin format offset total size into.new.items) }
+    ensures damaged { (n : ℕ) → result ≢ Err (ReplayRefused.Damaged n) }
     ensures untouched { IsUntouched D.told D.image D.time D.image_since disk.old disk.new }
     ensures cause { HasCount (D.fault_count disk.old) (D.fault_count disk.new) (IsErrOf result ReplayRefused.Failed)
         (IsOk result) }
 {
-    match look(disk, offset, total)? {
+    match look(disk, format, k, offset, total)? {
         Ahead::End => Ok(Ahead::End),
         Ahead::Torn => Ok(Ahead::Torn),
-        Ahead::Frame { size } => load(disk, offset + FRAME_HEAD, size, into),
+        Ahead::Frame { size } => load(disk, offset + format.frame_head(), size, into),
     }
 }
 
 // Goes past what was fetched, if it is a frame, and answers whether there was one.
 fn pass(
+    format: Format,
     offset: &mut u64,
     number: &mut u64,
     ended: &mut bool,
     fetched: Result<Ahead, ReplayRefused>,
 ) -> Result<bool, ReplayRefused>
-    requires room { (size : ℕ) → fetched ≡ Ok (Ahead.Frame size) → offset.old + FRAME_HEAD + size < 2 ^ 64 }
+    requires room { (size : ℕ) → fetched ≡ Ok (Ahead.Frame size) → offset.old + head_of format + size < 2 ^ 64 }
     requires few { number.old ≤ offset.old }
-    ensures { IsPassed fetched offset.old number.old ended.old offset.new number.new ended.new result }
+    ensures { IsPassed format fetched offset.old number.old ended.old offset.new number.new ended.new result }
 {
     match fetched {
         Ok(Ahead::End) => {
@@ -238,7 +301,7 @@ fn pass(
         }
         Ok(Ahead::Torn) => Err(ReplayRefused::Damaged { k: *number }),
         Ok(Ahead::Frame { size }) => {
-            *offset += FRAME_HEAD + u64::from(size);
+            *offset += format.frame_head() + u64::from(size);
             *number += 1;
             *ended = false;
             Ok(true)
@@ -251,6 +314,7 @@ fn pass(
 #[derive(Drop)]
 pub struct Replay<D: Disk> {
     disk: D,
+    format: Format,
     limit: u64,
     size: u64,
     offset: u64,
@@ -266,6 +330,7 @@ impl<D: Disk> Model for Replay<D> {
 
     ghost view = { λ r. record {
       disk = r.disk;
+      format = r.format;
       limit = r.limit;
       offset = r.offset;
       number = r.number;
@@ -273,26 +338,29 @@ impl<D: Disk> Model for Replay<D> {
           r.ended;
     } };
 
-    ghost invariant = { λ r. IsReplay (D.told r.disk) (D.image r.disk) r.limit r.size r.offset r.number r.ended };
+    ghost invariant = { λ r. IsReplay r.format (D.told r.disk) (D.image r.disk) r.limit r.size r.offset r.number
+        r.ended };
 }
 
 impl<D: Disk> Journal<D> {
-    /// Opens a disk that holds a store, to read its frames. It begins with a sync, so that what is read stays.
-    pub fn recover(disk: D) -> Result<Replay<D>, (RecoverRefused, D)>
+    /// Opens a disk that holds a store of either format, to read its frames. It never answers `OldFormat`.
+    ///
+    /// It begins with a sync, so that what is read stays.
+    pub fn recover_any(disk: D) -> Result<Replay<D>, (RecoverRefused, D)>
         ensures opened { IfOk result (λ replay. ForSome (D.told disk)
-            (λ bytes. HasHeader bytes replay.limit × HasRead bytes replay [])) }
+            (λ bytes. HasHeaderIn replay.format bytes replay.limit × HasRead bytes replay [])) }
         ensures begun { IfOk result (λ replay. (replay.offset ≡ HEADER) × (replay.number ≡ 0)
             × (replay.ended ≡ false)) }
         ensures synced { IfOk result (λ replay. IsSynced D.told D.image replay.disk) }
-        ensures not_a_store { IfErr result (λ e. e.0 ≡ RecoverRefused.NotAStore → ForSome (D.told disk)
-            (λ bytes. (limit : ℕ) → HasHeader bytes limit → ⊥)) }
+        ensures not_a_store { IfErr result (λ e. e.0 ≡ RecoverRefused.NotAStore → ForSome (D.told disk) HasNoHeader) }
+        ensures not_old { IfErr result (λ e. e.0 ≢ RecoverRefused.OldFormat) }
         ensures still { IfOk result (λ replay. D.told replay.disk ≡ D.told disk) }
         ensures still_err { IfErr result (λ e. D.told e.1 ≡ D.told disk) }
         ensures any_moment { IfOk result (λ replay. LeavesOnly D.time D.image_since disk replay.disk (D.image disk)) }
         ensures any_moment_err { IfErr result (λ e. LeavesOnly D.time D.image_since disk e.1 (D.image disk)) }
         ensures kept { IfOk result (λ replay. D.fault_count replay.disk ≡ D.fault_count disk) }
         ensures cause { IfErr result (λ e. HasCount (D.fault_count disk) (D.fault_count e.1) (e.0
-            ≡ RecoverRefused.Failed) (e.0 ≡ RecoverRefused.NotAStore)) }
+            ≡ RecoverRefused.Failed) (e.0 ≢ RecoverRefused.Failed)) }
     {
         let mut disk = disk;
         let Ok(()) = disk.sync() else {
@@ -305,11 +373,12 @@ impl<D: Disk> Journal<D> {
         let Ok(number) = disk.read_at(0, &mut head) else {
             return Err((RecoverRefused::Failed, disk));
         };
-        match limit_of(&head[..number.min(HEADER as usize)]) {
+        match header_of(&head[..number.min(HEADER as usize)]) {
             None => Err((RecoverRefused::NotAStore, disk)),
-            Some(limit) => Ok(Replay {
+            Some(header) => Ok(Replay {
                 disk,
-                limit,
+                format: header.format,
+                limit: header.limit,
                 size,
                 offset: HEADER,
                 number: 0,
@@ -317,12 +386,50 @@ impl<D: Disk> Journal<D> {
             }),
         }
     }
+
+    /// Opens a disk that holds a store of the format that is written, to read its frames.
+    ///
+    /// It begins with a sync, so that what is read stays.
+    pub fn recover(disk: D) -> Result<Replay<D>, (RecoverRefused, D)>
+        ensures format { IfOk result (λ replay. replay.format ≡ Formats.Two) }
+        ensures opened { IfOk result (λ replay. ForSome (D.told disk)
+            (λ bytes. HasHeader bytes replay.limit × HasRead bytes replay [])) }
+        ensures begun { IfOk result (λ replay. (replay.offset ≡ HEADER) × (replay.number ≡ 0)
+            × (replay.ended ≡ false)) }
+        ensures synced { IfOk result (λ replay. IsSynced D.told D.image replay.disk) }
+        ensures not_a_store { IfErr result (λ e. e.0 ≡ RecoverRefused.NotAStore → ForSome (D.told disk) HasNoHeader) }
+        ensures old_format { IfErr result (λ e. e.0 ≡ RecoverRefused.OldFormat → ForSome (D.told disk)
+            (λ bytes. (limit : ℕ) × HasHeaderIn Formats.One bytes limit)) }
+        ensures still { IfOk result (λ replay. D.told replay.disk ≡ D.told disk) }
+        ensures still_err { IfErr result (λ e. D.told e.1 ≡ D.told disk) }
+        ensures any_moment { IfOk result (λ replay. LeavesOnly D.time D.image_since disk replay.disk (D.image disk)) }
+        ensures any_moment_err { IfErr result (λ e. LeavesOnly D.time D.image_since disk e.1 (D.image disk)) }
+        ensures kept { IfOk result (λ replay. D.fault_count replay.disk ≡ D.fault_count disk) }
+        ensures cause { IfErr result (λ e. HasCount (D.fault_count disk) (D.fault_count e.1) (e.0
+            ≡ RecoverRefused.Failed) (e.0 ≢ RecoverRefused.Failed)) }
+    {
+        match Journal::recover_any(disk) {
+            Err(refused) => Err(refused),
+            Ok(replay) => match replay.format() {
+                Format::One => Err((RecoverRefused::OldFormat, replay.into_disk())),
+                Format::Two => Ok(replay),
+            },
+        }
+    }
 }
 
 impl<D: Disk> Replay<D> {
+    /// The format that the header tells. `finish` is for the one that is written.
+    pub fn format(&self) -> Format
+        ensures { result ≡ self.now.format }
+    {
+        self.format
+    }
+
     /// The bytes that the file may have.
     pub fn limit(&self) -> u64
-        ensures { result ≡ self.now.limit }
+        ensures same { result ≡ self.now.limit }
+        ensures bounds { IsLimit result }
     {
         self.limit
     }
@@ -340,6 +447,7 @@ impl<D: Disk> Replay<D> {
     {
         let Replay {
             disk,
+            format: _,
             limit: _,
             size: _,
             offset: _,
@@ -357,13 +465,14 @@ impl<D: Disk> Replay<D> {
         ensures end { IfOk result (λ more. more ≡ false → HasSameOffset self.old self.new
             × ForSome (D.told self.old.disk)
             (λ bytes. (payloads : List (List ℕ)) → HasRead bytes self.old payloads → HasRead bytes self.new payloads
-            × Stands bytes self.old.limit payloads)) }
+            × StandsIn self.old.format bytes self.old.limit payloads)) }
         ensures moved { IfOk result (λ more. more ≡ true → HasNextOffset self.old self.new into.new.items) }
         ensures ended { IfOk result (λ more. self.new.ended ≡ not more) }
         ensures damaged { (k : ℕ) → IsErrOf result (ReplayRefused.Damaged k) → (k ≡ self.old.number)
             × ForSome (D.told self.old.disk) (λ bytes. (payloads : List (List ℕ)) → HasRead bytes self.old payloads
-            → IsDamaged bytes self.old.limit payloads) }
+            → IsDamagedIn self.old.format bytes self.old.limit payloads) }
         ensures refused { IsErr result → HasSameOffset self.old self.new × (self.new.ended ≡ self.old.ended) }
+        ensures format { self.new.format ≡ self.old.format }
         ensures limit { self.new.limit ≡ self.old.limit }
         ensures still { D.told self.new.disk ≡ D.told self.old.disk }
         ensures synced { IsSynced D.told D.image self.new.disk }
@@ -372,13 +481,22 @@ impl<D: Disk> Replay<D> {
         ensures cause { HasCount (D.fault_count self.old.disk) (D.fault_count self.new.disk)
             (IsErrOf result ReplayRefused.Failed) (IsOk result) }
     {
-        let fetched = fetch(&mut self.disk, self.offset, self.size, into);
-        pass(&mut self.offset, &mut self.number, &mut self.ended, fetched)
+        let k = self.number;
+        let fetched = fetch(&mut self.disk, self.format, k, self.offset, self.size, into);
+        pass(
+            self.format,
+            &mut self.offset,
+            &mut self.number,
+            &mut self.ended,
+            fetched,
+        )
     }
 
-    /// The journal that was read, with a closed gate at its end. `next` has answered false before.
+    /// The journal that was read, with a closed gate at its end. `next` has answered false before. A store of the old
+    /// format is only read.
     pub fn finish(self) -> Result<Journal<D>, (Failed, D)>
-        requires { self.ended ≡ true }
+        requires ended { self.ended ≡ true }
+        requires format { self.format ≡ Formats.Two }
         ensures finished { IfOk result (λ journal. ForSome (D.told self.disk)
             (λ bytes. (payloads : List (List ℕ)) → HasRead bytes self payloads
             → frames_of D.told journal ≡ Some payloads)) }
@@ -405,6 +523,7 @@ impl<D: Disk> Replay<D> {
     {
         let Replay {
             mut disk,
+            format: _,
             limit,
             size: _,
             offset,

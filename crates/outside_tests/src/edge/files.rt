@@ -231,14 +231,15 @@ fn a_read_shows_what_was_written_since_the_last_one(rt: HostRuntime) -> Result<(
 }
 
 // An open header of limit 2^20, and an open gate.
-const FRONT: [u8; 18] = [1, 76, 82, 83, 74, 82, 78, 76, 1, 0, 0, 0, 0, 0, 16, 0, 0, 1];
+const FRONT: [u8; 18] = [1, 76, 82, 83, 74, 82, 78, 76, 2, 0, 0, 0, 0, 0, 16, 0, 0, 1];
 
 // The frames after the first.
-const FRAMES: [&str; 3] = ["hi", "", "abc"];
+const FRAMES: [&str; 2] = ["hi", "abc"];
 
 // Their bytes, and a closed gate.
-const REST: [u8; 21] = [
-    1, 0, 0, 0, 2, 104, 105, 1, 0, 0, 0, 0, 1, 0, 0, 0, 3, 97, 98, 99, 0,
+const REST: [u8; 32] = [
+    1, 0, 0, 0, 2, 0, 0, 0, 0, 0, 0, 0, 1, 104, 105, 1, 0, 0, 0, 3, 0, 0, 0, 0, 0, 0, 0, 2, 97, 98,
+    99, 0,
 ];
 
 // A store whose first payload is so many bytes of 7.
@@ -246,7 +247,8 @@ fn store_of(alloc: Global, size: usize) -> Result<Vec<u8>, Fail> {
     let length = (size as u64).to_be_bytes();
     let mut bytes = FRONT.to_vec(alloc)?;
     bytes.extend_from_slice(&length[4..])?;
-    bytes.resize(size.saturating_add(22), 7)?;
+    bytes.extend_from_slice(&[0; 8])?;
+    bytes.resize(size.saturating_add(30), 7)?;
     bytes.extend_from_slice(&REST)?;
     Ok(bytes)
 }
@@ -297,7 +299,7 @@ fn first_misread(
     shelf: &mut FileShelf<HostRuntime>,
     name: &str,
 ) -> Result<Option<usize>, Fail> {
-    for size in READ_AHEAD.saturating_sub(43)..READ_AHEAD.saturating_add(4) {
+    for size in READ_AHEAD.saturating_sub(62)..READ_AHEAD.saturating_add(4) {
         if !is_read_whole(alloc, shelf, name, size)? {
             return Ok(Some(size));
         }
@@ -308,7 +310,7 @@ fn first_misread(
 #[test]
 fn frames_that_cross_the_end_of_what_is_read_ahead_are_whole(rt: HostRuntime) -> Result<(), Fail> {
     let path = path_of(rt, "ahead")?;
-    let mut shelf = FileShelf::new(rt, 47)?;
+    let mut shelf = FileShelf::new(rt, 66)?;
     let wrong = first_misread(rt.alloc(), &mut shelf, path.as_path().as_str());
     drop(shelf);
     let removed = fs::remove_file(&rt, path.as_path().as_str()).is_ok();

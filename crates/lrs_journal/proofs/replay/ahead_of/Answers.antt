@@ -1,28 +1,38 @@
-use Rattle.std.proofs.Common.{◌≢◌, ◌⊎◌, inl, inr, ◌+◌, ◌<◌, List, ℕ, ◌∷◌, length, ap, refl, arith}
-use Rattle.std.specs.Int.{w32, to_be_bytes}
+use Rattle.std.proofs.Common.{◌≡◌, ◌≢◌, ◌⊎◌, inl, inr, ◌∙◌, ◌<◌, ℕ, ◌∷◌, ◌++◌, length, min, take, ap, sym, arith}
+use Rattle.std.specs.Int.{w32, w64, to_be_bytes}
 use Rattle.lrs_journal.proofs.Frames.{shut_ahead, torn_ahead, whole_ahead}
-use Rattle.lrs_journal.proofs.replay.ahead_of.Goals.{then-number-via-then-number, then-number-via-else-number+then-left-from}
 use Rattle.lrs_journal.proofs.replay.ahead_of.Goals as goal
 
-pub returns-then-number-lt2-clause-found : goal.returns-then-number-lt2-clause-found
-returns-then-number-lt2-clause-found c bytes is same left =
-    let shut : (c.args.number < 2) ⊎ (c.args.gate ≢ 1) = elim c.then-number-lt2.either [
+pub returns-then-left-lt2-clause-found : goal.returns-then-left-lt2-clause-found
+returns-then-left-lt2-clause-found c bytes left same =
+    let shut : (c.args.left < 2) ⊎ (c.args.gate ≢ 1) = elim c.then-left-lt2.either [
       | inl few ↦ inl few
       | inr other ↦ inr other.1
     ] in
-    shut_ahead bytes (to_be_bytes w32 c.args.size) c.args.gate c.args.number is same shut
-
-pub returns-then-number-clause-found : goal.returns-then-number-clause-found
-returns-then-number-clause-found c bytes is same left =
-    let word : List ℕ = to_be_bytes w32 c.args.size in
-    let short : (c.args.number < 5) ⊎ (length bytes < 5 + c.args.size) = elim c.then-number.branch [
-      | then-number-via-then-number w ↦ inl w.if-number.true
-      | then-number-via-else-number+then-left-from w ↦ inr (omega (arith, w.if-left-from.true, w.from.ensures, left))
+    let few : min 13 c.args.left ≡ min 13 (length bytes) = ap (λ (n : ℕ). min 13 n) left in
+    let read : (min 13 c.args.left < 2) ⊎ (c.args.gate ≢ 1) = elim shut [
+      | inl lt ↦ inl (omega (arith, lt))
+      | inr other ↦ inr other
     ] in
-    torn_ahead bytes (c.args.gate ∷ word) word c.args.number c.args.size is same (omega (arith, c.if-number-lt2.false)) (ap (λ (y : ℕ). y ∷ word) c.if-gate-ne1.false) (omega arith) refl (omega arith) short
+    shut_ahead bytes (to_be_bytes w32 c.args.size ++ to_be_bytes w64 c.args.number) c.args.gate (min 13 c.args.left) few same read
+
+pub returns-then-left-bytes-clause-found : goal.returns-then-left-bytes-clause-found
+returns-then-left-bytes-clause-found c bytes left same =
+    let word = to_be_bytes w32 c.args.size ++ to_be_bytes w64 c.args.number in
+    let few : min 13 c.args.left ≡ min 13 (length bytes) = ap (λ (n : ℕ). min 13 n) left in
+    torn_ahead c.args.format c.args.k bytes (min 13 c.args.left) c.args.size c.args.number few (ap (λ (y : ℕ). take (min 13 c.args.left) (y ∷ word)) (sym c.if-gate-ne1.false) ∙ same) (omega (arith, c.if-left-lt2.false))
+    (omega arith) (omega arith) (omega arith) (inl (omega (arith, c.if-left-bytes.true, c.frame_head.ensures, c.from.ensures, left)))
+
+pub returns-then-has_number-clause-found : goal.returns-then-has_number-clause-found
+returns-then-has_number-clause-found c bytes left same =
+    let word = to_be_bytes w32 c.args.size ++ to_be_bytes w64 c.args.number in
+    let few : min 13 c.args.left ≡ min 13 (length bytes) = ap (λ (n : ℕ). min 13 n) left in
+    whole_ahead c.args.format c.args.k bytes (min 13 c.args.left) c.args.size c.args.number few (ap (λ (y : ℕ). take (min 13 c.args.left) (y ∷ word)) (sym c.if-gate-ne1.false) ∙ same)
+    (omega (arith, c.if-left-bytes.false, c.frame_head.ensures, c.from.ensures, left)) (c.has_number.ensures.yes c.if-has_number.true)
 
 pub returns-clause-found : goal.returns-clause-found
-returns-clause-found c bytes is same left =
-    let word : List ℕ = to_be_bytes w32 c.args.size in
-    whole_ahead bytes (c.args.gate ∷ word) word c.args.number c.args.size same (omega (arith, c.if-number.false, is)) (ap (λ (y : ℕ). y ∷ word) c.if-gate-ne1.false) (omega arith) refl
-    (omega (arith, c.if-left-from.false, c.from.ensures, left))
+returns-clause-found c bytes left same =
+    let word = to_be_bytes w32 c.args.size ++ to_be_bytes w64 c.args.number in
+    let few : min 13 c.args.left ≡ min 13 (length bytes) = ap (λ (n : ℕ). min 13 n) left in
+    torn_ahead c.args.format c.args.k bytes (min 13 c.args.left) c.args.size c.args.number few (ap (λ (y : ℕ). take (min 13 c.args.left) (y ∷ word)) (sym c.if-gate-ne1.false) ∙ same) (omega (arith, c.if-left-lt2.false))
+    (omega arith) (omega arith) (omega arith) (inr (c.has_number.ensures.no c.if-has_number.false))

@@ -71,4 +71,4 @@ returns-clause-staged g c =
     let third = before _ _ _ f c.in_ok-write_at-3.ensures.written (sym c.sync.ensures.still ∙ d f left) in
     let second = before _ _ _ third.0 c.in_ok-write_at-2.ensures.written third.1 in
     let first = before _ _ _ second.0 c.in_ok-write_at.ensures.written second.1 in
-    (first.0, first.1, staged_is first.0 second.0 third.0 f c.args.offset c.args.payload.now (c.requires.gate first.0 first.1) (first.2 ∙ ap (λ l. written first.0 (c.args.offset + 1) l) c.to_be_bytes.ensures) second.2 third.2)) c.sync.ensures.durable
+    (first.0, first.1, staged_is first.0 second.0 third.0 f c.args.offset c.args.number c.args.payload.now (c.requires.gate first.0 first.1) (first.2 ∙ ap (λ l. written first.0 (c.args.offset + 1) l) c.numbers_of.ensures) second.2 third.2)) c.sync.ensures.durable

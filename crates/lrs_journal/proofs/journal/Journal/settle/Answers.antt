@@ -81,7 +81,7 @@ returns-clause-frames g c =
     let told = g.D.Disk.told in
     let old = subst (λ (o : Option ℕ). IsSound (told i.disk) (g.D.Disk.image i.disk) i.limit i.gate i.number o) c.in-Some.is c.self.invariant in
     let after = after_opened told g.D.Disk.image g.met.D.Disk.reads_image i.disk d1 i.limit i.gate i.number c.in-Some.size old c.write_gate.ensures.tells c.in_ok-write_gate.ensures.written in
-    let new : Journal _ = seen d1 i.limit (i.gate + (5 + c.in-Some.size)) i.number None in
+    let new : Journal _ = seen d1 i.limit (i.gate + (13 + c.in-Some.size)) i.number None in
     subst (λ (h : Journal _). IsUnchanged told h new) (ap (λ (o : Option ℕ). seen i.disk i.limit i.gate i.number o) (sym c.in-Some.is) ∙ c.self.view_is) (record { frames = after.1; number = refl; end = refl; limit = refl })
 
 pub returns-clause-sound : goal.returns-clause-sound
@@ -90,7 +90,7 @@ returns-clause-sound g c =
     let d1 = c.write_gate.new.disk in
     let old = subst (λ (o : Option ℕ). IsSound (g.D.Disk.told i.disk) (g.D.Disk.image i.disk) i.limit i.gate i.number o) c.in-Some.is c.self.invariant in
     let after = after_opened g.D.Disk.told g.D.Disk.image g.met.D.Disk.reads_image i.disk d1 i.limit i.gate i.number c.in-Some.size old c.write_gate.ensures.tells c.in_ok-write_gate.ensures.written in
-    settled_journal g.D.Disk.told g.D.Disk.image g.met.D.Disk.reads_image d1 i.limit (i.gate + (5 + c.in-Some.size)) i.number after.0
+    settled_journal g.D.Disk.told g.D.Disk.image g.met.D.Disk.reads_image d1 i.limit (i.gate + (13 + c.in-Some.size)) i.number after.0
 
 pub returns-clause-any_moment : goal.returns-clause-any_moment
 returns-clause-any_moment g c =

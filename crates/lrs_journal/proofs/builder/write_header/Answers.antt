@@ -2,7 +2,7 @@ use Rattle.std.proofs.Common.{refl, arith}
 use Rattle.lrs_disk.proofs.Moments.{started, stepped}
 use Rattle.lrs_journal.specs.Steps.{KeepsUpTo}
 use Rattle.lrs_journal.proofs.Lists.{torn_behind}
-use Rattle.lrs_journal.proofs.create.head.Goals as goal
+use Rattle.lrs_journal.proofs.builder.write_header.Goals as goal
 
 pub returns-clause-any_moment : goal.returns-clause-any_moment
 returns-clause-any_moment g c =
