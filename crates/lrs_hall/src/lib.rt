@@ -21,7 +21,8 @@ pub use laws::{
     law_of_points, law_of_receipts, law_of_refusals, law_of_unread_requests,
 };
 pub use lrs_machine::{
-    Answered, Desk, DeskRefused, FoundRefused, Receipt, Record, Refusal, Trouble, is_base, is_token,
+    Answered, Desk, DeskRefused, FoundRefused, MigrateRefused, Migrated, Receipt, Record, Refusal,
+    Trouble, is_base, is_token,
 };
 pub use serving::ServeEnd;
 pub use talk::{Finish, Talk};

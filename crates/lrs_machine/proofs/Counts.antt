@@ -2,9 +2,9 @@
 use Rattle.std.proofs.Common.{◌≡◌, ◌<◌, ◌≤◌, ◌+◌, ◌-◌, ◌*◌, ◌^◌, ◌&&◌, ℕ, List, [], ◌∷◌, ◌++◌, length, map, Option, Some, None, Bool, true, false, Result, refl, sym, ap, ◌∙◌, subst, arith, length-append, append_assoc}
 use Rattle.std.specs.Prelude.{is_some, is_ok}
 use Rattle.std.proofs.lemmas.List.{append-nil, length-map}
-use Rattle.lrs_journal.specs.Store.{frames, body, header}
+use Rattle.lrs_journal.specs.Store.{frames, frames_in, body, header}
+use Rattle.lrs_journal.specs.declared.sizes.Format.TheVariants as format
 use Rattle.lrs_journal.specs.declared.sizes.TheConstants.{MOST_BYTES}
-use Rattle.lrs_machine.proofs.Frames.{length-body}
 use Rattle.lrs_record.specs.Entries.{written_entry}
 use Rattle.lrs_record.specs.declared.entry.Entry.{Entry}
 use Rattle.lrs_fold.specs.LrsHistoryHistory.{Answer, end_offset, next_entry, state, write_outcome, ComesNext, IsLegal, IsLegalFrom}
@@ -18,15 +18,18 @@ use Rattle.lrs_machine.proofs.Tied.{accepted_by}
 
 -- ---- a store has few entries
 
-frames_long : (h : List Entry) → 2 * length h ≤ length (frames (map written_entry h))
-frames_long [] = omega arith
-frames_long (e ∷ h) =
-    let rest = frames_long h in
-    omega (arith, rest, length-append (body (written_entry e)) (frames (map written_entry h)), length-body (written_entry e))
+frames_long : (k : ℕ) (h : List Entry) → 2 * length h ≤ length (frames_in format.Two k (map written_entry h))
+frames_long k [] = omega arith
+frames_long k (e ∷ h) =
+    let rest = frames_long (k + 1) h in
+    omega (arith, rest, length-append (body k (written_entry e)) (frames_in format.Two (k + 1) (map written_entry h)), length_body k (written_entry e))
+  where
+    length_body : (n : ℕ) (p : List ℕ) → length (body n p) ≡ 12 + length p
+    length_body n p = omega arith
 
 store_long : (limit : ℕ) (h : List Entry) → 2 * length h ≤ end_offset limit h
 store_long limit h =
-    let long = frames_long h in
+    let long = frames_long 0 h in
     let whole : end_offset limit h ≡ length (header limit) + length (frames (map written_entry h)) = length-append (header limit) (frames (map written_entry h)) in
     omega (arith, long, whole)
 

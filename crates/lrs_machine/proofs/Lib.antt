@@ -1,5 +1,4 @@
 pub mod Histories
-pub mod Frames
 pub mod Lines
 pub mod Prefixes
 pub mod ActLemmas
@@ -12,3 +11,6 @@ pub mod Origins
 pub mod DeskLemmas
 pub mod Spares
 pub mod Sent
+pub mod Moved
+pub mod MigrateRefusals
+pub mod MigrateRuns

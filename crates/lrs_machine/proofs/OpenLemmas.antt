@@ -5,7 +5,9 @@ use Rattle.std.specs.Option.{ForSome}
 use Rattle.std.specs.Str.{bytes_eq}
 use Rattle.std.proofs.lemmas.Slice.Eq.{bytes_eq-Decides}
 use Rattle.lrs_disk.specs.Disk.{LeavesOnly}
-use Rattle.lrs_journal.specs.Store.{HasHeader, Stands, magic, payloads_in}
+use Rattle.lrs_journal.specs.Store.{HasHeaderIn, HasNoHeader, Stands, magic, payloads_in}
+use Rattle.lrs_journal.specs.declared.sizes.Format.{Format}
+use Rattle.lrs_journal.specs.declared.sizes.Format.TheVariants as format
 use Rattle.lrs_journal.specs.Journal.{Journal, frames_of, IsJournal, IsSynced, IsUnchanged, TellsAlike, StandsForFrames, settled}
 use Rattle.lrs_journal.specs.Replay.{Replay, HasRead}
 use Rattle.lrs_journal.specs.declared.sizes.TheConstants.{FRAME_HEAD, HEADER}
@@ -64,7 +66,7 @@ create_opened told image o journal st limit frame e h is text frames sound lawfu
   folded = folds;
   legal = (omega arith, (lawful, founding, tt));
   counts = fields.3;
-  offset = (let a = fields.2 in let b = store_length journal.limit (written_entry e ∷ []) in let c = ap length text in omega (arith, a, b, c));
+  offset = (let a = fields.2 in let b = store_length format.Two journal.limit (written_entry e ∷ []) in let c = ap length text in omega (arith, a, b, c));
   settled = fields.0;
   frames = λ ps there. by_told o ps (sym frames ∙ there);
 })
@@ -154,20 +156,22 @@ found_full limit e frame (create.Full n m) text full need most is =
     (sym a ∙ f.0 ∙ ap need_of_first text, sym b ∙ f.1, subst (λ (k : ℕ). limit < k) a f.2)
 
 -- why a disk wasn't opened
-pub open_refused : (bytes : List ℕ) (r : RecoverRefused) → (r ≡ recover.NotAStore → (limit : ℕ) → HasHeader bytes limit → ⊥) → IsDeskRefused bytes (opening_refusal r)
-open_refused bytes recover.NotAStore none = none refl
-open_refused bytes recover.Failed none = tt
+pub open_refused : (bytes : List ℕ) (r : RecoverRefused) → (r ≡ recover.NotAStore → HasNoHeader bytes) → (r ≡ recover.OldFormat → (limit : ℕ) × HasHeaderIn format.One bytes limit)
+    → IsDeskRefused bytes (opening_refusal r)
+open_refused bytes recover.NotAStore none old = none refl
+open_refused bytes recover.OldFormat none old = old refl
+open_refused bytes recover.Failed none old = tt
 
 -- ---- what a stop leaves of a founding
 
-header_store : (bytes : List ℕ) (limit : ℕ) → HasHeader bytes limit → IsStore bytes
-header_store bytes limit h = ap (λ (l : List ℕ). take 8 l) h.split
+header_store : (bytes : List ℕ) (f : Format) (limit : ℕ) → HasHeaderIn f bytes limit → IsStore bytes
+header_store bytes f limit h = ap (λ (l : List ℕ). take 8 l) h.split
 
 -- nothing was written
 pub makes_nothing : {D : Type 0} (told : D → Option (List ℕ)) (image : D → List ℕ → Type 0) (time : D → ℕ) (since : D → ℕ → List ℕ → Type 0) → ((d : D) (c : List ℕ) → since d (time d) c → image d c)
     → (limit : ℕ) (e : Entry) (disk : D) → MakesOnly told image time since limit e disk disk
 makes_nothing told image time since only_now limit e disk = λ synced bytes there none.
-    rests time since image only_now disk (IsMade limit (written_entry e)) (λ c left. inl (λ other h. none (header_store bytes other (subst (λ (b : List ℕ). HasHeader b other) (some_same c bytes (sym (synced c left) ∙ there)) h))))
+    rests time since image only_now disk (IsMade limit (written_entry e)) (λ c left. inl (λ f other h. none (header_store bytes f other (subst (λ (b : List ℕ). HasHeaderIn f b other) (some_same c bytes (sym (synced c left) ∙ there)) h))))
 
 pub untouched : {D : Type 0} (told : D → Option (List ℕ)) (image : D → List ℕ → Type 0) (time : D → ℕ) (since : D → ℕ → List ℕ → Type 0) → ((d : D) (c : List ℕ) → since d (time d) c → image d c)
     → (disk : D) → IsUntouched told image time since disk disk

@@ -25,7 +25,8 @@ use Rattle.lrs_machine.specs.Desk.{HoldsPrefix, IsOnDisk, KeepsLine}
 use Rattle.lrs_parts.specs.Parts.{SeenParts as Parts}
 use Rattle.lrs_machine.specs.Line.{Record, entries, in_doubt, sure, opened_line, line_of}
 use Rattle.lrs_machine.specs.Steps.{Does, GrewBy, HoldsFrames, Happens, HoldsEntries, LeavesFrames, IsTied, CarriesOut, folded, landed_of, line_after, one_of, sure_of}
-use Rattle.lrs_machine.proofs.Frames.{length-store-more}
+use Rattle.lrs_journal.proofs.Unique.{store_longer}
+use Rattle.lrs_journal.specs.declared.sizes.Format.TheVariants as format
 use Rattle.lrs_machine.proofs.Histories.{state_from-more, map-more, legal_with}
 use Rattle.lrs_machine.proofs.Lines.{Goes, before_goes, begins_opened, opened_within, doubt_opened, doubt_with, entries_goes, entries_opened, goes, moment_opened, none_some, which_of, some_same, sure_front, sure_goes, take_whole}
 use Rattle.lrs_machine.proofs.Prefixes.{frames_stand, prefix_less, prefix_more, prefix_of, weaker}
@@ -80,7 +81,7 @@ number_one told (Some e) old new h grew is = (let g = grew.1.number in omega (ar
 offset_one : {D : Type 0} (told : D → Option (List ℕ)) (made : Option Entry) (old new : Journal D) (h : List Entry) → GrewBy told made old new → old.end ≡ end_offset old.limit h → new.end ≡ end_offset old.limit (h ++ one_of made)
 offset_one told None old new h grew is = grew.end ∙ is ∙ ap (λ (l : List Entry). end_offset old.limit l) (sym (append-nil h))
 offset_one told (Some e) old new h grew is =
-    grew.1.end ∙ ap (λ (n : ℕ). n + (FRAME_HEAD + length (written_entry e))) is ∙ sym (length-store-more old.limit (map written_entry h) (written_entry e))
+    grew.1.end ∙ ap (λ (n : ℕ). n + (FRAME_HEAD + length (written_entry e))) is ∙ sym (store_longer format.Two old.limit (map written_entry h) (written_entry e))
     ∙ ap (λ (ps : List (List ℕ)). length (store old.limit ps)) (sym (map-more written_entry h e))
 
 -- where the new frames are told, so are the old ones

@@ -5,7 +5,8 @@ use Rattle.std.specs.Prelude.{Some, Bool, true, is_some, is_none, nat_lt}
 use Rattle.std.specs.Option.{ForSome}
 use Rattle.std.specs.List.{AllByRecursion}
 use Rattle.lrs_disk.specs.Disk.{LeavesOnly}
-use Rattle.lrs_journal.specs.Store.{store, HasHeader, IsPayload, Stands, IsDamaged}
+use Rattle.lrs_journal.specs.Store.{store, HasHeader, HasHeaderIn, HasNoHeader, IsPayload, Stands, IsDamaged}
+use Rattle.lrs_journal.specs.declared.sizes.Format.TheVariants as format
 use Rattle.lrs_journal.specs.Journal.{IsSynced, StandsForFrames, TellsStore}
 use Rattle.lrs_record.specs.declared.entry.Entry.{Entry}
 use Rattle.lrs_record.specs.Entries.{IsLawful, written_entry}
@@ -168,7 +169,8 @@ HasLegalFrames bytes limit k h =
 
 -- why a disk of these bytes isn't opened
 abbrev pub IsDeskRefused : List ℕ → DeskRefused → Type 0
-IsDeskRefused bytes desk.NotAStore = (limit : ℕ) → HasHeader bytes limit → ⊥
+IsDeskRefused bytes desk.NotAStore = HasNoHeader bytes
+IsDeskRefused bytes desk.OldFormat = (limit : ℕ) × HasHeaderIn format.One bytes limit
 IsDeskRefused bytes (desk.Damaged k) = (limit : ℕ) × (h : List Entry) × HasLegalFrames bytes limit k h
     × IsDamaged bytes limit (map written_entry h)
 IsDeskRefused bytes (desk.IllegalEntry k) = (limit : ℕ) × (h : List Entry) × HasLegalFrames bytes limit k h
@@ -179,6 +181,7 @@ IsDeskRefused bytes desk.Memory = Unit {0}
 -- a refusal that any disk may get
 abbrev pub IsFree : DeskRefused → Type 0
 IsFree desk.NotAStore = ⊥
+IsFree desk.OldFormat = ⊥
 IsFree (desk.Damaged k) = ⊥
 IsFree (desk.IllegalEntry k) = ⊥
 IsFree desk.Failed = Unit {0}

@@ -15,3 +15,4 @@ pub mod Origin
 pub mod Steps
 pub mod Fold
 pub mod Replays
+pub mod Migrating

@@ -3,6 +3,7 @@ use Rattle.std.specs.Prelude.{◌≡◌, ◌+◌, ◌==◌, ◌&&◌, ◌||◌, 
 use Rattle.std.specs.Prelude.{true, false, Result, Ok, Err}
 use Rattle.std.specs.Option.{ForSome}
 use Rattle.lrs_journal.specs.Store.{Stands}
+use Rattle.lrs_journal.specs.declared.sizes.Format.TheVariants as format
 use Rattle.lrs_journal.specs.Replay.{Replay, HasRead}
 use Rattle.lrs_journal.specs.declared.replay.ReplayRefused.{ReplayRefused}
 use Rattle.lrs_journal.specs.declared.replay.ReplayRefused.TheVariants as replay
@@ -41,6 +42,7 @@ TakesEntry frame k limit offset st su old new (Err other) = ⊥
 
 -- The replay has read frames of these entries, each of which came next, and this is their fold.
 pub record IsReplayed {D : Type 0} (replay : Replay D) (st : State) (h : List Entry) : Type 0 where
+  pub format : replay.format ≡ format.Two
   pub legal : IsLegalFrom replay.limit [] h
   pub folded : st ≡ state h
   pub counts : replay.number ≡ length h
@@ -70,6 +72,7 @@ refusal_of replay.Memory = desk.Memory
 -- a disk that isn't a store, or failed
 abbrev pub opening_refusal : RecoverRefused → DeskRefused
 opening_refusal recover.NotAStore = desk.NotAStore
+opening_refusal recover.OldFormat = desk.OldFormat
 opening_refusal recover.Failed = desk.Failed
 
 -- a disk on which no store is made

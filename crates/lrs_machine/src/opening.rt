@@ -34,9 +34,11 @@ use std::snapshot::Snapshot;
 /// Why a disk isn't opened as a store.
 #[derive(Clone, Copy, Debug, PartialEq, Eq)]
 pub enum DeskRefused {
-    /// The disk doesn't begin with a store's open header.
+    /// The disk doesn't begin with a store's open header, of whatever format.
     NotAStore,
-    /// Frame k isn't whole.
+    /// It begins with the open header of a store of the old format, which `migrate` alone reads.
+    OldFormat,
+    /// Frame k isn't whole, or it tells another number.
     Damaged { k: u64 },
     /// Frame k is no entry, or not one that may come next. With k 0 also: there is no frame.
     IllegalEntry { k: u64 },
@@ -222,8 +224,13 @@ fn finish<D: Disk>(
     }
 }
 
-// The desk over a journal with these entries, of which none is in doubt.
-fn opened<D: Disk>(alloc: Global, journal: Journal<D>, fold: Fold, opening: Noted<Entry>) -> Desk<D>
+/// The desk over a journal with these entries, of which none is in doubt.
+pub(crate) fn opened<D: Disk>(
+    alloc: Global,
+    journal: Journal<D>,
+    fold: Fold,
+    opening: Noted<Entry>,
+) -> Desk<D>
     requires opened { HoldsEntries D.told D.image journal (state_of fold) opening.items }
     ensures line { result.line ≡ opened_line result.opened_at opening.items }
     ensures fields { (result.limit ≡ journal.limit) × (in_doubt result.line ≡ false)
@@ -255,6 +262,7 @@ fn opening_refusal(unread: RecoverRefused) -> DeskRefused
 {
     match unread {
         RecoverRefused::NotAStore => DeskRefused::NotAStore,
+        RecoverRefused::OldFormat => DeskRefused::OldFormat,
         RecoverRefused::Failed => DeskRefused::Failed,
     }
 }

@@ -5,10 +5,12 @@ ghost use Rattle.lrs_disk.specs.Disk.{LeavesOnly};
 ghost use Rattle.lrs_journal.specs.Journal.{HasCount, IsSynced};
 ghost use Rattle.lrs_journal.specs.Replay.{HasRead};
 ghost use Rattle.lrs_journal.specs.declared.sizes.TheConstants.{HEADER};
+ghost use Rattle.lrs_journal.specs.declared.sizes.Format.TheVariants as Formats;
 ghost use Rattle.lrs_parts.specs.State.{apply, nothing};
 ghost use Rattle.lrs_machine.specs.declared.opening.DeskRefused.TheVariants as refused;
 ghost use Rattle.lrs_machine.specs.Fold.{state_of};
 ghost use Rattle.lrs_machine.specs.Desk.{IsDeskRefused};
+ghost use Rattle.lrs_machine.specs.Migrating.{JudgesEntry};
 ghost use Rattle.lrs_machine.specs.Replays.{has_room, refusal_of, IsReplayed, HasReadEntries, HasReadAll, TakesFrame, TakesEntry};
 
 use crate::DeskRefused;
@@ -21,9 +23,17 @@ use lrs_parts::Effect;
 use lrs_record::{Entry, EntryRefused, read_entry};
 use std::alloc::Global;
 
+/// Why a frame wasn't taken in.
+#[derive(Clone, Copy)]
+pub(crate) enum JudgeRefused {
+    // It is no entry, or not one that may come next.
+    Illegal,
+    Memory,
+}
+
 // Takes in an entry, of which this is the frame. Before it k frames were taken in, and after it the end gate stands at
 // that offset.
-#[tactic(auto, using(crate::proofs::Following::without_room, crate::proofs::Following::with_room, crate::proofs::Following::not_coming))]
+#[tactic(auto, using(crate::proofs::Following::without_room, crate::proofs::Following::takes_judged, crate::proofs::Following::takes_illegal))]
 fn take_entry(
     alloc: Global,
     frame: &[u8],
@@ -39,22 +49,41 @@ fn take_entry(
     if !has_room(k == 0, limit, offset) {
         return Err(DeskRefused::IllegalEntry { k });
     }
+    match judge(alloc, frame, k == 0, fold, opening) {
+        Ok(()) => Ok(()),
+        Err(JudgeRefused::Illegal) => Err(DeskRefused::IllegalEntry { k }),
+        Err(JudgeRefused::Memory) => Err(DeskRefused::Memory),
+    }
+}
+
+/// Takes in an entry, of which this is the frame, if it may come next, as the first one or after others. It asks for no
+/// room.
+pub(crate) fn judge(
+    alloc: Global,
+    frame: &[u8],
+    first: bool,
+    fold: &mut Fold,
+    opening: &mut Noted<Entry>,
+) -> Result<(), JudgeRefused>
+    ensures { JudgesEntry frame.now first (state_of fold.old) (state_of fold.new)
+        opening.old.items opening.new.items result }
+{
     let entry = match read_entry(alloc, frame) {
         Ok(entry) => entry,
-        Err(EntryRefused::BadEntry) => return Err(DeskRefused::IllegalEntry { k }),
-        Err(EntryRefused::Memory) => return Err(DeskRefused::Memory),
+        Err(EntryRefused::BadEntry) => return Err(JudgeRefused::Illegal),
+        Err(EntryRefused::Memory) => return Err(JudgeRefused::Memory),
     };
     let longer = opening.and(&entry);
-    match fold.next(alloc, k == 0, entry) {
+    match fold.next(alloc, first, entry) {
         Ok(Some(effect)) => match take_in(fold, effect) {
             Ok(()) => {
                 *opening = longer;
                 Ok(())
             }
-            Err(_) => Err(DeskRefused::Memory),
+            Err(_) => Err(JudgeRefused::Memory),
         },
-        Ok(None) => Err(DeskRefused::IllegalEntry { k }),
-        Err(_) => Err(DeskRefused::Memory),
+        Ok(None) => Err(JudgeRefused::Illegal),
+        Err(_) => Err(JudgeRefused::Memory),
     }
 }
 
@@ -143,6 +172,7 @@ pub(crate) fn replay_all<D: Disk>(
     opening: &mut Noted<Entry>,
 ) -> Result<(), DeskRefused>
     requires empty { (state_of fold.old ≡ nothing) × (opening.old.items ≡ []) }
+    requires format { replay.old.format ≡ Formats.Two }
     requires begun { (replay.old.offset ≡ HEADER) × (replay.old.number ≡ 0) }
     requires read { ForSome (D.told replay.old.disk) (λ bytes. HasRead bytes replay.old []) }
     requires synced { IsSynced D.told D.image replay.old.disk }

@@ -7,6 +7,8 @@ mod documents;
 #[cfg(test)]
 mod listings;
 #[cfg(test)]
+mod migrating;
+#[cfg(test)]
 mod rows;
 #[cfg(test)]
 mod statements;

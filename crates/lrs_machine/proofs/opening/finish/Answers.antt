@@ -6,6 +6,9 @@ use Rattle.lrs_machine.specs.Fold.{state_of}
 use Rattle.lrs_machine.proofs.OpenLemmas.{finish_opened}
 use Rattle.lrs_machine.proofs.opening.finish.Goals as goal
 
+pub finish-requires-clause-format : goal.finish-requires-clause-format
+finish-requires-clause-format g c = c.requires.replayed.format
+
 pub opened-requires : goal.opened-requires
 opened-requires g c = record {
   opened =

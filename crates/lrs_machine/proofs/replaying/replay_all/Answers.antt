@@ -24,7 +24,7 @@ loop-k-init g c = record {
   limit = refl;
   count = refl;
   long = ap length c.requires.empty.1;
-  replayed = taken_none c.args.replay.now (state_of c.args.fold.now) c.args.opening.now.items c.requires.empty.0 c.requires.empty.1 c.requires.begun;
+  replayed = taken_none c.args.replay.now (state_of c.args.fold.now) c.args.opening.now.items c.requires.empty.0 c.requires.empty.1 c.requires.format c.requires.begun;
   read = λ bytes there. subst (λ h. HasReadEntries bytes c.args.replay.now h) (sym c.requires.empty.1) (c.requires.read bytes there);
   leaves = rests g.D.Disk.time g.D.Disk.image_since g.D.Disk.image g.met.D.Disk.only_now c.args.replay.now.disk (λ bytes. g.D.Disk.told c.args.replay.now.disk ≡ Some bytes) c.requires.synced;
 }
