@@ -17,14 +17,21 @@ const NO_RANDOM_SOURCE: u8 = 21;
 /// The status if the words are no command.
 const NO_COMMAND: u8 = 1;
 
-/// How many files a command works on.
-const FILES: usize = 1;
+/// The status if the store has the old format.
+const OLD_FORMAT: u8 = 9;
+
+/// How many files a command works on at most.
+const FILES: usize = 2;
 
 const USAGE: &str = "usage: kilnlime init FILE --admin TOKEN [--base URL] [--limit BYTES]
        kilnlime intake FILE < STATEMENT
        kilnlime serve FILE ADDRESS --workers W --connections N
        kilnlime load FILE SEED N
+       kilnlime migrate OLD NEW [--limit BYTES]
 see `kilnlime --help`, or docs/FORMATS.md, section \"Words and statuses\"";
+
+const UPGRADE: &str =
+    "this store was made by kilnlime 0.1.0; `kilnlime migrate FILE NEW` makes a store of this version in NEW, and leaves FILE as it is (docs/OPERATING.md, \"Upgrades\")";
 
 // The words after the program's name. One that is no UTF-8 makes them no command.
 fn arguments(rt: &(impl Env + AllocGlobal)) -> Result<Vec<Text>, Ending> {
@@ -46,11 +53,15 @@ fn arguments(rt: &(impl Env + AllocGlobal)) -> Result<Vec<Text>, Ending> {
     Ok(texts)
 }
 
-// The program's end. If the words are no command, standard error tells which one is wrong, and what they can be.
+// The program's end. If the words are no command, standard error tells which one is wrong, and what they can be. If the
+// store has the old format, it tells what to do.
 fn exit(rt: &(impl Eprint + AllocGlobal), status: u8, words: Option<&[Text]>) -> ExitCode {
     if status == NO_COMMAND {
         tell_fault(rt, words);
         let _ = rt.eprintln(USAGE);
+    }
+    if status == OLD_FORMAT {
+        let _ = rt.eprintln(UPGRADE);
     }
     ExitCode::from(status)
 }

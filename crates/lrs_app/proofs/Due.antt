@@ -15,6 +15,9 @@ use Rattle.lrs_hall.specs.LrsFoldOwn.{founding_entry}
 use Rattle.lrs_hall.specs.LrsHistoryHistory.{Answer, with_entry}
 use Rattle.lrs_hall.specs.LrsMachineDesk.{IsDeskRefused, SparesLegal}
 use Rattle.lrs_hall.specs.LrsMachineLine.{Record}
+use Rattle.lrs_hall.specs.LrsMachineMigrating.{chosen, IsMovable, SparesMovable, StandsForEntries}
+use Rattle.lrs_hall.specs.LrsMachineMigratingMigrateRefused.{MigrateRefused}
+use Rattle.lrs_hall.specs.LrsMachineMigratingMigrateRefusedTheVariants as migrating
 use Rattle.lrs_hall.specs.LrsMachineOpeningDeskRefused.{DeskRefused}
 use Rattle.lrs_hall.specs.LrsMachineOpeningDeskRefusedTheVariants as refused
 use Rattle.lrs_hall.specs.Serving.{AreOnLinks, EndsServing, Tide}
@@ -25,15 +28,16 @@ use Rattle.lrs_hall.specs.declared.serving.ServeEnd.TheVariants as serving
 use Rattle.lrs_journal.specs.Create.{IsForeign, IsOpenTo, IsStore}
 use Rattle.lrs_app.specs.Disks.{EndsUnopened, IsDamagedAt, LeavesUnopened, Taken}
 use Rattle.lrs_app.specs.Doing.{IsUndone}
-use Rattle.lrs_app.specs.Due.{AllServeToEnd, CommandEndsAsDue, EndsAsDue, GivesStatus, InitEndsAsDue, IntakeEndsAsDue, IsCalm, IsInitDue, IsIntakeDue, IsLoadDue, HasNoLegalHistory, IsServeDue, IsStill, IsUnopenedDue, LoadEndsAsDue, ServeEndsAsDue}
+use Rattle.lrs_app.specs.Due.{AllServeToEnd, CommandEndsAsDue, EndsAsDue, GivesStatus, HasNothingMovable, InitEndsAsDue, IntakeEndsAsDue, IsCalm, IsCalmWithTwo, IsInitDue, IsIntakeDue, IsLoadDue, IsMigrateDue, HasNoLegalHistory, IsServeDue, IsStill, IsUnopenedDue, LoadEndsAsDue, MigrateEndsAsDue, ServeEndsAsDue}
 use Rattle.lrs_app.specs.Load.{LoadsFrom, StopsLoading, post_answer}
-use Rattle.lrs_app.specs.Run.{Outside, CommandRuns, EndsOpened, HasEndingCause, InitEnds, InitLeaves, InitRuns, InitStops, InitTells, IntakeEnds, IntakeLeaves, IntakeRuns, LoadEnds, LoadLeaves, LoadRuns, PrintsEnding, PrintsLine, Runs, ServeLeaves, ServeRuns, ServesDisk, outside, taken_from}
+use Rattle.lrs_app.specs.Migrate.{EndsUnmoved, IfBoth, LeavesMoved, MovesStore, ending_of_migration}
+use Rattle.lrs_app.specs.Run.{Outside, CommandRuns, EndsOpened, HasEndingCause, InitEnds, InitLeaves, InitRuns, InitStops, InitTells, IntakeEnds, IntakeLeaves, IntakeRuns, LoadEnds, LoadLeaves, LoadRuns, MigrateLeaves, MigrateRuns, PrintsEnding, PrintsLine, Runs, ServeLeaves, ServeRuns, ServesDisk, outside, taken_from}
 use Rattle.lrs_app.specs.Service.{Doors, HasNoDoor, ending_of_serving, responses_of}
 use Rattle.lrs_app.specs.Steps.{ending_of}
 use Rattle.lrs_app.specs.declared.program.Done as doing
 use Rattle.lrs_app.specs.declared.program.Ended as program
 use Rattle.lrs_app.specs.declared.program.Report.{Report}
-use Rattle.lrs_command_line.specs.CommandLine.{CommandLine, init, intake, serve, load, base_of, connections_of, count_of, limit_of, seed_of, workers_of}
+use Rattle.lrs_command_line.specs.CommandLine.{CommandLine, init, intake, serve, load, migrate, base_of, chosen_limit_of, connections_of, count_of, limit_of, seed_of, workers_of}
 use Rattle.lrs_console.specs.Asking.{InputKind, EndsAsking, IsTakenFor}
 use Rattle.lrs_console.specs.declared.ending.Ending.{Ending}
 use Rattle.lrs_console.specs.declared.ending.Ending.TheVariants as ending
@@ -65,6 +69,8 @@ unopened_by : (held told : Option (List ℕ)) (why : DeskRefused) → IfSome hel
     → (ending_of why ≡ ending.DiskFault → ⊥) → (ending_of why ≡ ending.Memory) ⊎ IsUnopenedDue held (ending_of why)
 unopened_by held told refused.NotAStore spares holds no_fault =
     inr (if_both held (λ bytes. SparesLegal bytes refused.NotAStore) (λ bytes. EndsUnopened bytes told (ending_of refused.NotAStore)) (λ bytes. HasNoLegalHistory bytes × IsDeskRefused bytes refused.NotAStore) (λ bytes none ends. (none, ends.0)) spares holds)
+unopened_by held told refused.OldFormat spares holds no_fault =
+    inr (if_both held (λ bytes. SparesLegal bytes refused.OldFormat) (λ bytes. EndsUnopened bytes told (ending_of refused.OldFormat)) (λ bytes. HasNoLegalHistory bytes × IsDeskRefused bytes refused.OldFormat) (λ bytes none ends. (none, ends.0)) spares holds)
 unopened_by held told (refused.Damaged k) spares holds no_fault =
     inr (if_both held (λ bytes. SparesLegal bytes (refused.Damaged k)) (λ bytes. EndsUnopened bytes told (ending_of (refused.Damaged k))) (λ bytes. HasNoLegalHistory bytes × IsDamagedAt bytes k) (λ bytes none ends. (none, ends.0)) spares holds)
 unopened_by held told (refused.IllegalEntry k) spares holds no_fault =
@@ -88,6 +94,8 @@ init_by held told limit first n ending.Founded tells ends no_fault =
     inr (if_more held (λ bytes. InitEnds bytes limit first told ending.Founded) IsOpenTo (λ bytes e. e.0) ends, tells.0)
 init_by held told limit first n (ending.Kept id) tells ends no_fault = absurd tells
 init_by held told limit first n (ending.Served responses) tells ends no_fault = absurd tells
+init_by held told limit first n ending.OldFormat tells ends no_fault = absurd tells
+init_by held told limit first n (ending.Migrated entries) tells ends no_fault = absurd tells
 init_by held told limit first n (ending.Loaded statements listed) tells ends no_fault = absurd tells
 init_by held told limit first n ending.Usage tells ends no_fault = absurd tells
 init_by held told limit first n ending.NotAStore tells ends no_fault =
@@ -127,6 +135,8 @@ opened_by : (limit : ℕ) (opened final : List Entry) (input : List ℕ) (clock 
 opened_by limit opened final input clock draw ending.Founded ends no_disk no_input = inr (ends.0, ends.1, ends.2)
 opened_by limit opened final input clock draw (ending.Kept id) ends no_disk no_input = inr (ends.0, ends.1, ends.2)
 opened_by limit opened final input clock draw (ending.Served responses) ends no_disk no_input = inr (ends.0, ends.1, ends.2)
+opened_by limit opened final input clock draw ending.OldFormat ends no_disk no_input = inr (ends.0, ends.1, ends.2)
+opened_by limit opened final input clock draw (ending.Migrated entries) ends no_disk no_input = inr (ends.0, ends.1, ends.2)
 opened_by limit opened final input clock draw (ending.Loaded statements listed) ends no_disk no_input = inr (ends.0, ends.1, ends.2)
 opened_by limit opened final input clock draw ending.Usage ends no_disk no_input = inr (ends.0, ends.1, ends.2)
 opened_by limit opened final input clock draw ending.NotAStore ends no_disk no_input = inr (ends.0, ends.1, ends.2)
@@ -171,6 +181,8 @@ stops_final : (h : List Entry) (a : Answer) (final : List Entry) (end : Ending) 
 stops_final h a final ending.Founded stops no_disk = stops.1
 stops_final h a final (ending.Kept id) stops no_disk = stops.1
 stops_final h a final (ending.Served responses) stops no_disk = stops.1
+stops_final h a final ending.OldFormat stops no_disk = stops.1
+stops_final h a final (ending.Migrated entries) stops no_disk = stops.1
 stops_final h a final (ending.Loaded statements listed) stops no_disk = stops.1
 stops_final h a final ending.Usage stops no_disk = stops.1
 stops_final h a final ending.NotAStore stops no_disk = stops.1
@@ -201,6 +213,8 @@ is_memory : (end : Ending) → (end ≡ ending.Memory) ⊎ (end ≢ ending.Memor
 is_memory ending.Founded = inr (λ e. cc)
 is_memory (ending.Kept id) = inr (λ e. cc)
 is_memory (ending.Served responses) = inr (λ e. cc)
+is_memory ending.OldFormat = inr (λ e. cc)
+is_memory (ending.Migrated entries) = inr (λ e. cc)
 is_memory (ending.Loaded statements listed) = inr (λ e. cc)
 is_memory ending.Usage = inr (λ e. cc)
 is_memory ending.NotAStore = inr (λ e. cc)
@@ -288,6 +302,8 @@ no_door : (address : List ℕ) (workers : ℕ) (before after : Doors) (end : End
 no_door address workers before after ending.Founded none no_lobby = absurd none
 no_door address workers before after (ending.Kept id) none no_lobby = absurd none
 no_door address workers before after (ending.Served responses) none no_lobby = absurd none
+no_door address workers before after ending.OldFormat none no_lobby = absurd none
+no_door address workers before after (ending.Migrated entries) none no_lobby = absurd none
 no_door address workers before after (ending.Loaded statements listed) none no_lobby = absurd none
 no_door address workers before after ending.Usage none no_lobby = absurd none
 no_door address workers before after ending.NotAStore none no_lobby = absurd none
@@ -331,6 +347,68 @@ serve_calm d file address workers connections seed before after (Some disk) talk
     serve_by d (taken_from before file) disk address workers connections seed before.lobby after.lobby talks n end
     (not_disk (before.begins file) (d.fault_count disk) 0 0 end leaves.0 calm.disk) (λ is. calm.lobby (leaves.2.0 is)) leaves.2
 
+-- ---- migrate
+
+-- the due ending where the store was moved
+move_due : {D : Type 0} (d : disks.Ghosts D) (old new : Taken) (disk : D) (limit : Option ℕ) (n : ℕ) (end : Ending) → LeavesMoved d old new disk limit n end
+    → IsMigrateDue old.held new.held limit end
+move_due d old new disk limit n end leaves =
+    subst (λ (e : Ending). IsMigrateDue old.held new.held limit e) (sym leaves.ended) (record {
+      entries = leaves.entries;
+      counts = (refl, leaves.some);
+      store = if_more old.held (λ was. (own : ℕ) × StandsForEntries was own leaves.entries × (leaves.most ≡ chosen limit own))
+          (λ was. (own : ℕ) × StandsForEntries was own leaves.entries × IsMovable (chosen limit own) leaves.entries)
+          (λ was store. (store.0, store.1, subst (λ (most : ℕ). IsMovable most leaves.entries) store.2 leaves.movable)) leaves.store;
+      free = leaves.free;
+    })
+
+-- of two disks that tell what they held
+of_both : (old new : Option (List ℕ)) (P Q R : List ℕ → List ℕ → Type 0) → ((was bytes : List ℕ) → P was bytes → Q was bytes → R was bytes) → IfBoth old new P → IfBoth old new Q → IfBoth old new R
+of_both None new P Q R both p q = tt
+of_both (Some was) None P Q R both p q = tt
+of_both (Some was) (Some bytes) P Q R both p q = both was bytes p q
+
+unmoved_by : (old new : Option (List ℕ)) (limit : Option ℕ) (why : MigrateRefused) → IfBoth old new (λ was bytes. SparesMovable was bytes limit why)
+    → IfBoth old new (λ was bytes. EndsUnmoved was bytes limit (ending_of_migration why)) → (ending_of_migration why ≡ ending.DiskFault → ⊥)
+    → (ending_of_migration why ≡ ending.Memory) ⊎ IsMigrateDue old new limit (ending_of_migration why)
+unmoved_by old new limit why spares ends no_fault = by_refusal why spares ends no_fault
+  where
+    due : (why : MigrateRefused) → ((was bytes : List ℕ) → SparesMovable was bytes limit why → HasNothingMovable was bytes limit) → IfBoth old new (λ was bytes. SparesMovable was bytes limit why)
+        → IfBoth old new (λ was bytes. EndsUnmoved was bytes limit (ending_of_migration why))
+        → IfBoth old new (λ was bytes. HasNothingMovable was bytes limit × EndsUnmoved was bytes limit (ending_of_migration why))
+    due why none spares ends = of_both old new (λ was bytes. SparesMovable was bytes limit why) (λ was bytes. EndsUnmoved was bytes limit (ending_of_migration why))
+        (λ was bytes. HasNothingMovable was bytes limit × EndsUnmoved was bytes limit (ending_of_migration why)) (λ was bytes s e. (none was bytes s, e)) spares ends
+
+    by_refusal : (why : MigrateRefused) → IfBoth old new (λ was bytes. SparesMovable was bytes limit why)
+        → IfBoth old new (λ was bytes. EndsUnmoved was bytes limit (ending_of_migration why)) → (ending_of_migration why ≡ ending.DiskFault → ⊥)
+        → (ending_of_migration why ≡ ending.Memory) ⊎ IsMigrateDue old new limit (ending_of_migration why)
+    by_refusal migrating.NotAStore spares ends no_fault = inr (due migrating.NotAStore (λ was bytes s own h stands some movable free. s stands.0 own h stands.1 some movable free) spares ends)
+    by_refusal migrating.AlreadyStore spares ends no_fault = inr (due migrating.AlreadyStore (λ was bytes s own h stands some movable free. s stands.0 own h stands.1 some movable free) spares ends)
+    by_refusal migrating.Foreign spares ends no_fault = inr (due migrating.Foreign (λ was bytes s own h stands some movable free. s stands.0 own h stands.1 some movable free) spares ends)
+    by_refusal (migrating.Damaged k) spares ends no_fault = inr (due (migrating.Damaged k) (λ was bytes s own h stands some movable free. s stands.0 own h stands.1 some movable free) spares ends)
+    by_refusal (migrating.IllegalEntry k) spares ends no_fault = inr (due (migrating.IllegalEntry k) (λ was bytes s own h stands some movable free. s stands.0 own h stands.1 some movable free) spares ends)
+    by_refusal (migrating.Full need most) spares ends no_fault = inr (due (migrating.Full need most) (λ was bytes s own h stands some movable free. s stands.0 own h stands.1 some movable free) spares ends)
+    by_refusal migrating.Failed spares ends no_fault = absurd (no_fault refl)
+    by_refusal migrating.Memory spares ends no_fault = inl refl
+
+migrate_by : {D : Type 0} (d : disks.Ghosts D) (old new : Taken) (old_disk disk : D) (limit : Option ℕ) (n : ℕ) (end : Ending) → MovesStore d old new old_disk disk limit n end
+    → (end ≡ ending.DiskFault → ⊥) → (end ≡ ending.Memory) ⊎ IsMigrateDue old.held new.held limit end
+migrate_by d old new old_disk disk limit n end (read, inl moved) no_fault = inr (move_due d old new disk limit n end moved)
+migrate_by d old new old_disk disk limit n end (read, inr unmoved) no_fault =
+    subst (λ (e : Ending). (e ≡ ending.Memory) ⊎ IsMigrateDue old.held new.held limit e) (sym unmoved.ended)
+    (unmoved_by old.held new.held limit unmoved.why unmoved.spares
+    (subst (λ (e : Ending). IfBoth old.held new.held (λ was bytes. EndsUnmoved was bytes limit e)) unmoved.ended unmoved.because)
+    (λ is. no_fault (unmoved.ended ∙ is)))
+
+migrate_calm : {D : Type 0} (d : disks.Ghosts D) (old new : List ℕ) (limit : Option ℕ) (before after : Outside) (old_back back : Option D) (taken : Taken) (n : ℕ) (end : Ending)
+    → MigrateLeaves d old new limit before after old_back back taken n end → IsCalmWithTwo d old taken before after old_back back
+    → (end ≡ ending.Memory) ⊎ IsMigrateDue (before.holds old) taken.held limit end
+migrate_calm d old new limit before after None None taken n end (takes, none) calm = absurd (calm.shelf none.1)
+migrate_calm d old new limit before after None (Some disk) taken n end leaves calm = absurd leaves
+migrate_calm d old new limit before after (Some old_disk) None taken n end (takes, none, read) calm = absurd (calm.shelf none.1)
+migrate_calm d old new limit before after (Some old_disk) (Some disk) taken n end (takes, moves, cause) calm =
+    migrate_by d (taken_from before old) taken old_disk disk limit n end moves (λ is. ⊎_elim (λ rises. calm.first rises) (λ rises. calm.second rises) (cause is))
+
 -- ---- runs
 
 module _ {D : Type 0} (d : disks.Ghosts D) (seed : List ℕ) (before after : Outside) (o : program.Ended D) where
@@ -362,8 +440,8 @@ module _ {D : Type 0} (d : disks.Ghosts D) (seed : List ℕ) (before after : Out
     end,
     runs,
     record {
-      calm = load_calm d file number count draws clocks before after o.disk o.report.length end runs.4;
-      status = gives_status end before after o.status runs.5;
+      calm = load_calm d file number count draws clocks before after o.disk o.report.length end runs.5;
+      status = gives_status end before after o.status runs.6;
     },
   )
 
@@ -372,9 +450,18 @@ module _ {D : Type 0} (d : disks.Ghosts D) (seed : List ℕ) (before after : Out
     end,
     runs,
     record {
-      calm = serve_calm d file address workers connections seed before after o.disk o.report.talks o.report.length end runs.3;
-      status = gives_status end before after o.status runs.4;
+      calm = serve_calm d file address workers connections seed before after o.disk o.report.talks o.report.length end runs.4;
+      status = gives_status end before after o.status runs.5;
     },
+  )
+
+  migrate_due : (old new : List ℕ) (limit : Option ℕ) → MigrateRuns d old new limit before after o → MigrateEndsAsDue d old new limit before after o
+  migrate_due old new limit (taken, end, runs) = (
+    taken,
+    end,
+    runs,
+    λ calm. migrate_calm d old new limit before after o.old o.disk taken o.report.length end runs.leaves calm,
+    gives_status end before after o.status runs.prints,
   )
 
   command_due : (c : CommandLine) → CommandRuns d c seed before after o → CommandEndsAsDue d c seed before after o
@@ -382,6 +469,7 @@ module _ {D : Type 0} (d : disks.Ghosts D) (seed : List ℕ) (before after : Out
   command_due (intake file) runs = intake_due file (draw_at (start_of seed 0)) runs
   command_due (serve w) runs = (runs.0, serve_due w.file w.address (workers_of w) (connections_of w) runs.1)
   command_due (load w) runs = (runs.0, load_due w.file (seed_of w) (count_of w) (start_of seed 0) runs.1)
+  command_due (migrate w) runs = (runs.0, migrate_due w.old w.new (chosen_limit_of w) runs.1)
 
   -- a run ends as is due
   pub ends_as_due : (words : List (List ℕ)) → Runs d words seed before after o → EndsAsDue d words seed before after o
@@ -392,9 +480,9 @@ module _ {D : Type 0} (d : disks.Ghosts D) (seed : List ℕ) (before after : Out
 -- without memory for the words nothing but the output is used
 pub idle_as_due : {S D B E L I O : Type 0} (d : disks.Ghosts D) (s : shelves.Ghosts S D) (b : lobbies.Ghosts B E L) (i : sources.Ghosts I) (o : sinks.Ghosts O)
     (shelf : S) (lobby : B) (input : I) (out out_now : O) (words : List (List ℕ)) (seed : List ℕ) (done : doing.Done D) (ended : program.Ended D)
-    → IsUndone ending.Memory done → ended.disk ≡ done.disk → ended.report ≡ done.report → PrintsLine o done.ending out out_now ended.status
+    → IsUndone ending.Memory done → ended.disk ≡ done.disk → ended.old ≡ done.old → ended.report ≡ done.report → PrintsLine o done.ending out out_now ended.status
     → EndsAsDue d words seed (outside s b i o shelf lobby input out) (outside s b i o shelf lobby input out_now) ended
-idle_as_due d s b i o shelf lobby input out out_now words seed done ended undone same_disk same_report prints =
+idle_as_due d s b i o shelf lobby input out out_now words seed done ended undone same_disk same_old same_report prints =
     ends_as_due d seed (outside s b i o shelf lobby input out) (outside s b i o shelf lobby input out_now) ended words (inr (inr (
       record {
         holds = λ file. refl;
@@ -404,6 +492,7 @@ idle_as_due d s b i o shelf lobby input out out_now words seed done ended undone
         input = record { left = refl; faults = refl };
         doors = refl;
         disk = same_disk ∙ undone.disk;
+        old = same_old ∙ undone.old;
         length = ap (λ (r : Report). r.length) same_report ∙ undone.length;
         silent = (ap (λ (r : Report). r.talks) same_report ∙ undone.talks, ap (λ (r : Report). r.responses) same_report ∙ undone.responses);
       },

@@ -3,6 +3,8 @@ pub mod NotFounded
 pub mod Openings
 pub mod Opened
 pub mod Taking
+pub mod Moving
+pub mod Migration
 pub mod Readable
 pub mod Batches
 pub mod Loading

@@ -1,5 +1,5 @@
 -- From the steps of a command to what a run says.
-use Rattle.std.proofs.Common.{◌≤◌, ◌≡◌, append-nil, ℕ, List, [], Option, Some, None, IfSome, MatchOption, Result, Ok, Err, IfOk, ap, refl, sym, ◌∙◌, subst, arith}
+use Rattle.std.proofs.Common.{◌≤◌, ◌≡◌, append-nil, ℕ, List, [], Option, Some, None, IfSome, MatchOption, option_map, Result, Ok, Err, IfOk, ap, refl, sym, ◌∙◌, subst, arith}
 use Rattle.std.specs.Option.{option_map_or}
 use Rattle.std.specs.Str.Parse.{digits_value}
 use Rattle.lrs_disk.specs.Door.{DoorState}
@@ -16,7 +16,7 @@ use Rattle.lrs_names.specs.declared.draw.Draw.{Draw}
 use Rattle.lrs_record.specs.declared.entry.Entry.{Entry}
 use Rattle.lrs_hall.specs.Draws.{Draws, draw_at, start_of}
 use Rattle.lrs_hall.specs.Serving.{AddsReadings, tide_at}
-use Rattle.lrs_command_line.specs.CommandLine.{CommandLine, init, intake, serve, load, IsInRange, IsNumberIn, base_of, seed_of, workers_of}
+use Rattle.lrs_command_line.specs.CommandLine.{CommandLine, init, intake, serve, load, migrate, IsInRange, IsNumberIn, base_of, chosen_limit_of, seed_of, workers_of}
 use Rattle.lrs_command_line.specs.Shapes.{Denotes}
 use Rattle.lrs_command_line.specs.declared.words.ProgramCommand.{ProgramCommand}
 use Rattle.lrs_command_line.specs.declared.words.ProgramCommand.TheVariants as words
@@ -34,7 +34,7 @@ use Rattle.lrs_app.specs.declared.program.Done as doing
 use Rattle.lrs_app.specs.declared.program.Ended as program
 use Rattle.lrs_app.specs.declared.program.Report.{Report}
 use Rattle.lrs_app.specs.Steps.{DenotesInRange}
-use Rattle.lrs_app.specs.Run.{Outside, HasEndingCause, IntakeEnds, IntakeLeaves, IntakeRuns, InitLeaves, InitOnDisk, InitRuns, IsOneStep, LoadEnds, LoadLeaves, LoadRuns, PrintsEnding, ReadsOnce, SparesDoors, SparesInput, ServeLeaves, ServeRuns, ServesDisk, TakesFile, CommandRuns, outside, taken_from}
+use Rattle.lrs_app.specs.Run.{Outside, HasEndingCause, IntakeEnds, IntakeLeaves, IntakeRuns, InitLeaves, InitOnDisk, InitRuns, IsOneStep, LoadEnds, LoadLeaves, LoadRuns, MigrateRuns, PrintsEnding, ReadsOnce, SparesDoors, SparesInput, ServeLeaves, ServeRuns, ServesDisk, TakesFile, CommandRuns, outside, taken_from}
 
 -- what a lobby tells of its doors is the same
 pub same_doors : {a b : Option (List DoorsAsked)} {c d : Option (List DoorState)} {m n : ℕ} → a ≡ b → c ≡ d → m ≡ n
@@ -108,9 +108,9 @@ pub is_taken : {D : Type 0} (d : disks.Ghosts D) (before after : Outside) (taken
 is_taken d before after taken same told begins starts cause =
     subst (λ (f : List ℕ). IsTakenFrom d before after f taken) same (record { told = told; begins = begins; starts = starts; cause = cause })
 
--- no connection was served
+-- no connection was served, and no old store was taken
 abbrev pub IsQuiet : {D : Type 0} → doing.Done D → Type 0
-IsQuiet done = (done.report.talks ≡ []) × (done.report.responses ≡ 0)
+IsQuiet done = (done.report.talks ≡ []) × (done.report.responses ≡ 0) × (done.old ≡ None)
 
 -- the clock wasn't read
 reads_none : (old new : Option (List ℕ)) → new ≡ old → AddsReadings old new []
@@ -135,12 +135,12 @@ module _ {S D B E L I O : Type 0} (d : disks.Ghosts D) (s : shelves.Ghosts S D) 
     subst (λ (o : Option D). InitLeaves d file admin base limit clock before after o done.report.length done.ending) (sym does.1.back)
         (init_leaves d does.0 (taken_from before file) done.report.length done.ending old limit (founding_entry admin base clock)
         (same_taken (d.told old) (d.fault_count old) (d.time old) before.holds before.begins before.starts {name = file} {file = file} refl from.told from.begins from.starts) does.2 does.3),
-    (does.1.talks, does.1.responses),
+    (does.1.talks, does.1.responses, does.1.old),
   )
   init_left (Err failed) admin base limit clock from does = (
     subst (λ (o : Option D). InitLeaves d file admin base limit clock before after o done.report.length done.ending) (sym does.disk)
         (does.ended, from.cause.failed refl, does.length),
-    (does.talks, does.responses),
+    (does.talks, does.responses, does.old),
   )
 
   intake_left : (taken : Result D Failed) (clock : ℕ) (draw : Draw) → IsTakenFrom d before after file taken → IntakeDoes d i taken clock draw input input_now done
@@ -149,12 +149,12 @@ module _ {S D B E L I O : Type 0} (d : disks.Ghosts D) (s : shelves.Ghosts S D) 
     subst (λ (o : Option D). IntakeLeaves d file clock draw before after o done.report.length done.ending) (sym does.1.back)
         (intake_leaves d does.0 (taken_from before file) done.report.length done.ending old before.left clock draw before.input_faults after.input_faults
         (same_taken (d.told old) (d.fault_count old) (d.time old) before.holds before.begins before.starts {name = file} {file = file} refl from.told from.begins from.starts) does.2 does.3),
-    (does.1.talks, does.1.responses),
+    (does.1.talks, does.1.responses, does.1.old),
   )
   intake_left (Err failed) clock draw from does = (
     subst (λ (o : Option D). IntakeLeaves d file clock draw before after o done.report.length done.ending) (sym does.0.disk)
         ((does.0.ended, from.cause.failed refl, does.0.length), record { left = does.1; faults = does.2 }),
-    (does.0.talks, does.0.responses),
+    (does.0.talks, does.0.responses, does.0.old),
   )
 
   load_left : (taken : Result D Failed) (seed count : ℕ) (draws : Draws) → IsTakenFrom d before after file taken → LoadDoes d b taken seed count draws lobby lobby_now done
@@ -166,35 +166,37 @@ module _ {S D B E L I O : Type 0} (d : disks.Ghosts D) (s : shelves.Ghosts S D) 
     subst (λ (o : Option D). LoadLeaves d file seed count draws does.2 before after o done.report.length done.ending) (sym does.1.back)
         (load_leaves d does.0 (taken_from before file) done.report.length done.ending old seed count draws does.2
         (same_taken (d.told old) (d.fault_count old) (d.time old) before.holds before.begins before.starts {name = file} {file = file} refl from.told from.begins from.starts) does.4 does.5),
-    (does.1.talks, does.1.responses),
+    (does.1.talks, does.1.responses, does.1.old),
   )
   load_left (Err failed) seed count draws from does = (
     [],
     reads_none (b.readings lobby) (b.readings lobby_now) does.1,
     subst (λ (o : Option D). LoadLeaves d file seed count draws [] before after o done.report.length done.ending) (sym does.0.disk)
         ((does.0.ended, from.cause.failed refl, does.0.length), refl),
-    (does.0.talks, does.0.responses),
+    (does.0.talks, does.0.responses, does.0.old),
   )
 
   serve_left : (taken : Result D Failed) (address : List ℕ) (workers connections : ℕ) (seed : List ℕ) → IsTakenFrom d before after file taken
       → ServeDoes d b taken address workers connections seed lobby lobby_now done
       → ServeLeaves d file address workers connections seed before after done.disk done.report.talks done.report.length done.ending
-      × (done.report.responses ≡ responses_of done.report.talks)
+      × (done.report.responses ≡ responses_of done.report.talks) × (done.old ≡ None)
   serve_left (Ok old) address workers connections seed from does = (
     subst (λ (o : Option D). ServeLeaves d file address workers connections seed before after o done.report.talks done.report.length done.ending) (sym does.1)
         (serve_leaves d does.0 (taken_from before file) done.report.length done.ending old address workers connections seed before.lobby after.lobby done.report.talks
         (same_taken (d.told old) (d.fault_count old) (d.time old) before.holds before.begins before.starts {name = file} {file = file} refl from.told from.begins from.starts)
-        does.5 does.3 does.4),
+        does.6 does.4 does.5),
+    does.3,
     does.2,
   )
   serve_left (Err failed) address workers connections seed from does = (
     subst (λ (o : Option D). ServeLeaves d file address workers connections seed before after o done.report.talks done.report.length done.ending) (sym does.0.disk)
         ((does.0.ended, from.cause.failed refl, does.0.length), does.1, does.0.talks),
     does.0.responses ∙ sym (ap responses_of does.0.talks),
+    does.0.old,
   )
 
   -- and a run of it, which ends by its line
-  module _ (ended : program.Ended D) (same_disk : ended.disk ≡ done.disk) (same_report : ended.report ≡ done.report)
+  module _ (ended : program.Ended D) (same_disk : ended.disk ≡ done.disk) (same_old : ended.old ≡ done.old) (same_report : ended.report ≡ done.report)
       (takes : TakesFile file before after) (prints : PrintsEnding done.ending before after ended.status) where
     one_step : (clock : ℕ) → ReadsOnce clock before after → SparesDoors before after → IsQuiet done → IsOneStep file before after ended clock done.ending
     one_step clock reads doors quiet = record {
@@ -202,6 +204,7 @@ module _ {S D B E L I O : Type 0} (d : disks.Ghosts D) (s : shelves.Ghosts S D) 
       takes = takes;
       doors = doors;
       silent = (ap (λ (r : Report). r.talks) same_report ∙ quiet.0, ap (λ (r : Report). r.responses) same_report ∙ quiet.1);
+      old = same_old ∙ quiet.2;
       prints = prints;
     }
 
@@ -245,6 +248,7 @@ module _ {S D B E L I O : Type 0} (d : disks.Ghosts D) (s : shelves.Ghosts S D) 
             takes,
             doors,
             (ap (λ (r : Report). r.talks) same_report ∙ left.3.0, ap (λ (r : Report). r.responses) same_report ∙ left.3.1),
+            same_old ∙ left.3.2,
             subst (λ (x : Option D). LoadLeaves d file seed count draws left.0 before after x ended.report.length done.ending) (sym same_disk)
                 (subst (λ (r : Report). LoadLeaves d file seed count draws left.0 before after done.disk r.length done.ending) (sym same_report) left.2),
             prints,
@@ -261,6 +265,7 @@ module _ {S D B E L I O : Type 0} (d : disks.Ghosts D) (s : shelves.Ghosts S D) 
             readings,
             takes,
             subst (λ (r : Report). r.responses ≡ responses_of r.talks) (sym same_report) left.1,
+            same_old ∙ left.2,
             subst (λ (x : Option D). ServeLeaves d file address workers connections seed before after x ended.report.talks ended.report.length done.ending) (sym same_disk)
                 (subst (λ (r : Report). ServeLeaves d file address workers connections seed before after done.disk r.talks r.length done.ending) (sym same_report) left.0),
             prints,
@@ -279,6 +284,7 @@ does_init d c read file admin base limit seed before after o is_read means spare
   meant (intake name) means = absurd means
   meant (serve w) means = absurd means
   meant (load w) means = absurd means
+  meant (migrate w) means = absurd means
   meant (init w) means =
       let named : InitRuns d w.file admin base limit before after o = subst (λ (f : List ℕ). InitRuns d f admin base limit before after o) means.0 run in
       let known : InitRuns d w.file w.admin base limit before after o = subst (λ (a : List ℕ). InitRuns d w.file a base limit before after o) means.1 named in
@@ -298,6 +304,7 @@ meant_init read file admin base limit is_read meant = ranged meant.0 meant.1 (su
   ranged (intake name) range means = absurd means
   ranged (serve w) range means = absurd means
   ranged (load w) range means = absurd means
+  ranged (migrate w) range means = absurd means
   ranged (init w) range means = (
     subst (λ (n : ℕ). IsLimit n) (sym means.3) (limit_within w.limit range.limit),
     subst (λ (a : List ℕ). IsToken a) (sym means.1) range.admin,
@@ -311,6 +318,7 @@ meant_workers read file address workers connections is_read meant = ranged meant
   ranged (intake name) range means = absurd means
   ranged (init w) range means = absurd means
   ranged (load w) range means = absurd means
+  ranged (migrate w) range means = absurd means
   ranged (serve w) range means = (subst (λ (n : ℕ). 1 ≤ n) (sym means.2) range.workers.least, subst (λ (n : ℕ). n ≤ MOST_PASSES) (sym means.2) range.workers.most)
 
 -- the same of intake
@@ -321,6 +329,7 @@ does_intake d c read file seed before after o is_read means run = meant c (subst
   meant (init w) means = absurd means
   meant (serve w) means = absurd means
   meant (load w) means = absurd means
+  meant (migrate w) means = absurd means
   meant (intake name) means = subst (λ (f : List ℕ). IntakeRuns d f (draw_at (start_of seed 0)) before after o) means run
 
 -- the same of serve
@@ -332,6 +341,7 @@ does_serve d c read file address workers connections seed before after o is_read
   meant (intake name) means = absurd means
   meant (init w) means = absurd means
   meant (load w) means = absurd means
+  meant (migrate w) means = absurd means
   meant (serve w) means =
       let named : ServeRuns d w.file address workers connections seed before after o = subst (λ (f : List ℕ). ServeRuns d f address workers connections seed before after o) means.0 run in
       let known : ServeRuns d w.file w.address workers connections seed before after o = subst (λ (a : List ℕ). ServeRuns d w.file a workers connections seed before after o) means.1 named in
@@ -347,7 +357,40 @@ does_load d c read file number count seed before after o is_read means spares ru
   meant (intake name) means = absurd means
   meant (init w) means = absurd means
   meant (serve w) means = absurd means
+  meant (migrate w) means = absurd means
   meant (load w) means =
       let named : LoadRuns d w.file number count (start_of seed 0) before after o = subst (λ (f : List ℕ). LoadRuns d f number count (start_of seed 0) before after o) means.0 run in
       let seeded : LoadRuns d w.file (seed_of w) count (start_of seed 0) before after o = subst (λ (n : ℕ). LoadRuns d w.file n count (start_of seed 0) before after o) means.1 named in
       (spares, subst (λ (n : ℕ). LoadRuns d w.file (seed_of w) n (start_of seed 0) before after o) means.2 seeded)
+
+-- the same of migrate
+pub does_migrate : {D : Type 0} (d : disks.Ghosts D) (c : CommandLine) (read : ProgramCommand) (old new : List ℕ) (limit : Option ℕ) (seed : List ℕ) (before after : Outside) (o : program.Ended D)
+    → read ≡ words.Migrate old new limit → Denotes read c → SparesInput before after → MigrateRuns d old new limit before after o → CommandRuns d c seed before after o
+does_migrate d c read old new limit seed before after o is_read means spares run = meant c (subst (λ (r : ProgramCommand). Denotes r c) is_read means) where
+  meant : (c : CommandLine) → Denotes (words.Migrate old new limit) c → CommandRuns d c seed before after o
+  meant (intake name) means = absurd means
+  meant (init w) means = absurd means
+  meant (serve w) means = absurd means
+  meant (load w) means = absurd means
+  meant (migrate w) means =
+      let named : MigrateRuns d w.old new limit before after o = subst (λ (f : List ℕ). MigrateRuns d f new limit before after o) means.0 run in
+      let known : MigrateRuns d w.old w.new limit before after o = subst (λ (f : List ℕ). MigrateRuns d w.old f limit before after o) means.1 named in
+      (spares, subst (λ (l : Option ℕ). MigrateRuns d w.old w.new l before after o) means.2 known)
+
+-- the two files of words of migrate that are meant have different names, and a limit is one
+pub meant_migrate : (read : ProgramCommand) (old new : List ℕ) (limit : Option ℕ) → read ≡ words.Migrate old new limit → DenotesInRange read
+    → (old ≡ new → ⊥) × IfSome limit IsLimit
+meant_migrate read old new limit is_read meant = ranged meant.0 meant.1 (subst (λ (r : ProgramCommand). Denotes r meant.0) is_read meant.2) where
+  within : (word : Option (List ℕ)) → IfSome word (IsNumberIn LEAST_BYTES MOST_BYTES) → IfSome (option_map (digits_value 10) word) IsLimit
+  within None is = tt
+  within (Some word) is = (is.least, is.most)
+
+  ranged : (c : CommandLine) → IsInRange c → Denotes (words.Migrate old new limit) c → (old ≡ new → ⊥) × IfSome limit IsLimit
+  ranged (intake name) range means = absurd means
+  ranged (init w) range means = absurd means
+  ranged (serve w) range means = absurd means
+  ranged (load w) range means = absurd means
+  ranged (migrate w) range means = (
+    λ same. range.differ (sym means.0 ∙ same ∙ means.1),
+    subst (λ (l : Option ℕ). IfSome l IsLimit) (sym means.2) (within w.limit range.limit),
+  )

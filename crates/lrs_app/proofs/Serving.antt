@@ -65,6 +65,8 @@ doorless_cause address workers before after ending.Memory none = λ e. cc
 doorless_cause address workers before after ending.Founded none = absurd none
 doorless_cause address workers before after (ending.Kept id) none = absurd none
 doorless_cause address workers before after (ending.Served n) none = absurd none
+doorless_cause address workers before after ending.OldFormat none = absurd none
+doorless_cause address workers before after (ending.Migrated entries) none = absurd none
 doorless_cause address workers before after (ending.Loaded statements listed) none = absurd none
 doorless_cause address workers before after ending.Usage none = absurd none
 doorless_cause address workers before after ending.NotAStore none = absurd none
@@ -85,6 +87,8 @@ doorless_disk address workers before after ending.Memory m n none = tt
 doorless_disk address workers before after ending.Founded m n none = absurd none
 doorless_disk address workers before after (ending.Kept id) m n none = absurd none
 doorless_disk address workers before after (ending.Served k) m n none = absurd none
+doorless_disk address workers before after ending.OldFormat m n none = absurd none
+doorless_disk address workers before after (ending.Migrated entries) m n none = absurd none
 doorless_disk address workers before after (ending.Loaded statements listed) m n none = absurd none
 doorless_disk address workers before after ending.Usage m n none = absurd none
 doorless_disk address workers before after ending.NotAStore m n none = absurd none
@@ -234,6 +238,7 @@ had_doors state doors name address workers asked0 asked1 asked2 returned0 return
 
 unopened_cause : (why : DeskRefused) (before after : Doors) → HasLobbyCause before after (ending_of why)
 unopened_cause refused.NotAStore before after = λ e. cc
+unopened_cause refused.OldFormat before after = λ e. cc
 unopened_cause (refused.Damaged k) before after = λ e. cc
 unopened_cause (refused.IllegalEntry k) before after = λ e. cc
 unopened_cause refused.Failed before after = λ e. cc

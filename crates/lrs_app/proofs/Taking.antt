@@ -18,7 +18,7 @@ use Rattle.lrs_console.specs.declared.ending.Ending.{Ending}
 
 -- ---- a store was opened
 
-if_some : {A : Type 0} (o : Option A) (P : A → Type 0) → ForSome o P → IfSome o P
+pub if_some : {A : Type 0} (o : Option A) (P : A → Type 0) → ForSome o P → IfSome o P
 if_some None P holds = tt
 if_some (Some x) P holds = holds x refl
 
@@ -52,6 +52,7 @@ unopened_holds : (held new : Option (List ℕ)) (why : DeskRefused) → ForSome 
     → ForSome held (λ bytes. HoldsAsBefore bytes new) → IfSome held (λ bytes. EndsUnopened bytes new (ending_of why))
 unopened_holds None new why is same left = tt
 unopened_holds (Some bytes) new refused.NotAStore is same left = (is bytes refl, same (λ e. cc))
+unopened_holds (Some bytes) new refused.OldFormat is same left = (is bytes refl, same (λ e. cc))
 unopened_holds (Some bytes) new (refused.Damaged k) is same left = (inl (is bytes refl), same (λ e. cc))
 unopened_holds (Some bytes) new (refused.IllegalEntry k) is same left = (inr (is bytes refl), same (λ e. cc))
 unopened_holds (Some bytes) new refused.Failed is same left = left bytes refl
@@ -62,6 +63,7 @@ unopened_stops : {D : Type 0} (d : disks.Ghosts D) (first disk : D) (why : DeskR
     → (why ≢ refused.Failed → OpensOnly d.told d.image d.time d.image_since first disk (λ bytes after. after ≡ bytes))
     → AnyStopLeaves d (taken_now d first) disk (IsSpared (ending_of why) bytes)
 unopened_stops d first disk refused.NotAStore bytes told synced opens untouched = (untouched (λ e. cc) synced bytes told).each
+unopened_stops d first disk refused.OldFormat bytes told synced opens untouched = (untouched (λ e. cc) synced bytes told).each
 unopened_stops d first disk (refused.Damaged k) bytes told synced opens untouched = (untouched (λ e. cc) synced bytes told).each
 unopened_stops d first disk (refused.IllegalEntry k) bytes told synced opens untouched = (untouched (λ e. cc) synced bytes told).each
 unopened_stops d first disk refused.Failed bytes told synced opens untouched = (opens synced bytes told).each

@@ -57,6 +57,7 @@ IsDamagedAt bytes k = IsDeskRefused bytes (refused.Damaged k) ⊎ IsDeskRefused 
 -- How a command ends on a disk of these bytes if no store is opened.
 abbrev pub EndsUnopened : List ℕ → Option (List ℕ) → Ending → Type 0
 EndsUnopened bytes told ending.NotAStore = IsDeskRefused bytes refused.NotAStore × (told ≡ Some bytes)
+EndsUnopened bytes told ending.OldFormat = IsDeskRefused bytes refused.OldFormat × (told ≡ Some bytes)
 EndsUnopened bytes told (ending.Damaged k) = IsDamagedAt bytes k × (told ≡ Some bytes)
 EndsUnopened bytes told ending.Memory = told ≡ Some bytes
 EndsUnopened bytes told ending.DiskFault = HoldsAsBefore bytes told

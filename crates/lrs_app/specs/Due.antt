@@ -11,18 +11,20 @@ use Rattle.lrs_generator.specs.Generated.{batch_count}
 use Rattle.lrs_hall.specs.Draws.{Draws, draw_at, start_of}
 use Rattle.lrs_hall.specs.LrsFoldOwn.{founding_entry}
 use Rattle.lrs_hall.specs.LrsMachineDesk.{IsDeskRefused, IsStoreOf}
+use Rattle.lrs_hall.specs.LrsMachineMigrating.{chosen, IsMovable, StandsForEntries}
 use Rattle.lrs_hall.specs.LrsMachineOpeningDeskRefusedTheVariants as refused
 use Rattle.lrs_hall.specs.Serving.{ComesThrough, EndsServing}
 use Rattle.lrs_hall.specs.Talks.{Talk}
 use Rattle.lrs_hall.specs.declared.serving.ServeEnd.TheVariants as serve
-use Rattle.lrs_app.specs.Disks.{IsDamagedAt}
+use Rattle.lrs_app.specs.Disks.{IsDamagedAt, Taken}
 use Rattle.lrs_app.specs.Load.{LoadsFrom}
-use Rattle.lrs_app.specs.Run.{Outside, InitRunsTo, IntakeRunsTo, IsIdle, LoadRunsTo, PrintsEnding, ServeRunsTo}
-use Rattle.lrs_app.specs.Run.{SparesInput}
+use Rattle.lrs_app.specs.Migrate.{EndsUnmoved, IfBoth}
+use Rattle.lrs_app.specs.Run.{Outside, InitRunsTo, IntakeRunsTo, IsIdle, LoadRunsTo, MigrateRunsTo, PrintsEnding}
+use Rattle.lrs_app.specs.Run.{ServeRunsTo, SparesInput}
 use Rattle.lrs_app.specs.Service.{Doors, HadDoors, responses_of}
 use Rattle.lrs_app.specs.declared.program.Ended as program
-use Rattle.lrs_command_line.specs.CommandLine.{CommandLine, init, intake, serve, load, IsCommandLine, base_of, limit_of}
-use Rattle.lrs_command_line.specs.CommandLine.{connections_of, count_of, seed_of, workers_of}
+use Rattle.lrs_command_line.specs.CommandLine.{CommandLine, init, intake, serve, load, migrate, IsCommandLine, base_of}
+use Rattle.lrs_command_line.specs.CommandLine.{chosen_limit_of, connections_of, count_of, limit_of, seed_of, workers_of}
 use Rattle.lrs_console.specs.Asking.{InputKind, IsTakenFor, EndsAsking}
 use Rattle.lrs_console.specs.Endings.{ending_status}
 use Rattle.lrs_console.specs.Reading.{AreOfInput}
@@ -41,6 +43,15 @@ pub record IsCalm {D : Type 0} (d : disks.Ghosts D) (file : List ℕ) (before af
     (back : Option D) : Type 0 where
   pub shelf : IsStill before.shelf_faults after.shelf_faults
   pub disk : IfSome back (λ disk. IsStill (before.begins file) (d.fault_count disk))
+  pub lobby : IsStill before.lobby.faults after.lobby.faults
+  pub input : IsStill before.input_faults after.input_faults
+
+-- The same of a run that takes the disks of two files, of which the second was so as it was taken.
+pub record IsCalmWithTwo {D : Type 0} (d : disks.Ghosts D) (file : List ℕ) (taken : Taken) (before after : Outside)
+    (first_back second_back : Option D) : Type 0 where
+  pub shelf : IsStill before.shelf_faults after.shelf_faults
+  pub first : IfSome first_back (λ disk. IsStill (before.begins file) (d.fault_count disk))
+  pub second : IfSome second_back (λ disk. IsStill taken.tide.faults (d.fault_count disk))
   pub lobby : IsStill before.lobby.faults after.lobby.faults
   pub input : IsStill before.input_faults after.input_faults
 
@@ -67,6 +78,8 @@ HasNoLegalHistory bytes = (limit : ℕ) (h : List Entry) → IsStoreOf bytes lim
 abbrev pub IsUnopenedDue : Option (List ℕ) → Ending → Type 0
 IsUnopenedDue held ending.NotAStore =
     IfSome held (λ bytes. HasNoLegalHistory bytes × IsDeskRefused bytes refused.NotAStore)
+IsUnopenedDue held ending.OldFormat =
+    IfSome held (λ bytes. HasNoLegalHistory bytes × IsDeskRefused bytes refused.OldFormat)
 IsUnopenedDue held (ending.Damaged k) = IfSome held (λ bytes. HasNoLegalHistory bytes × IsDamagedAt bytes k)
 IsUnopenedDue held other = ⊥
 
@@ -122,6 +135,26 @@ pub record IsServeDue (held : Option (List ℕ)) (address : List ℕ) (workers c
   pub each : AllServeToEnd connections openings closings talks
   pub served : end ≡ ending.Served (responses_of talks)
 
+-- migrate, of a disk that held the store of entries that can be moved, into one on which a store may be made
+pub record IsMoveDue (old new : Option (List ℕ)) (limit : Option ℕ) (k : ℕ) : Type 0 where
+  pub entries : List Entry
+  pub counts : (k ≡ length entries) × (0 < k)
+  pub store : IfSome old (λ was. (own : ℕ) × StandsForEntries was own entries × IsMovable (chosen limit own) entries)
+  pub free : IfSome new IsOpenTo
+
+-- no entries for which the first bytes stand can be moved to a disk of the second
+abbrev pub HasNothingMovable : List ℕ → List ℕ → Option ℕ → Type 0
+HasNothingMovable was bytes limit = (own : ℕ) (h : List Entry) → StandsForEntries was own h → 0 < length h
+    → IsMovable (chosen limit own) h → IsOpenTo bytes → ⊥
+
+-- migrate, of any two disks
+abbrev pub IsMigrateDue : Option (List ℕ) → Option (List ℕ) → Option ℕ → Ending → Type 0
+IsMigrateDue old new limit (ending.Migrated k) = IsMoveDue old new limit k
+IsMigrateDue old new limit ending.DiskFault = ⊥
+IsMigrateDue old new limit ending.Memory = ⊥
+IsMigrateDue old new limit other =
+    IfBoth old new (λ was bytes. HasNothingMovable was bytes limit × EndsUnmoved was bytes limit other)
+
 -- ---- how a run ends
 
 -- the status is just the ending's, if the output didn't fail
@@ -162,6 +195,14 @@ ServeEndsAsDue d file address workers connections seed before after o = (end : E
     (IsUnopenedDue (before.holds file) end
     ⊎ IsServeDue (before.holds file) address workers connections before.lobby after.lobby o.report.talks end)
 
+abbrev pub MigrateEndsAsDue : {D : Type 0} → disks.Ghosts D → List ℕ → List ℕ → Option ℕ → Outside → Outside
+    → program.Ended D → Type 0
+MigrateEndsAsDue d old new limit before after o = (taken : Taken) × (end : Ending)
+    × MigrateRunsTo d old new limit before after o taken end
+    × (IsCalmWithTwo d old taken before after o.old o.disk
+    → (end ≡ ending.Memory) ⊎ IsMigrateDue (before.holds old) taken.held limit end)
+    × GivesStatus end before after o.status
+
 -- with the draws of `CommandRuns`
 abbrev pub CommandEndsAsDue : {D : Type 0} → disks.Ghosts D → CommandLine → List ℕ → Outside → Outside
     → program.Ended D → Type 0
@@ -172,6 +213,8 @@ CommandEndsAsDue d (serve w) seed before after o = SparesInput before after
     × ServeEndsAsDue d w.file w.address (workers_of w) (connections_of w) seed before after o
 CommandEndsAsDue d (load w) seed before after o = SparesInput before after
     × LoadEndsAsDue d w.file (seed_of w) (count_of w) (start_of seed 0) before after o
+CommandEndsAsDue d (migrate w) seed before after o = SparesInput before after
+    × MigrateEndsAsDue d w.old w.new (chosen_limit_of w) before after o
 
 -- What `Runs` says of a run of these words, and that its ending is `memory` or due if nothing failed.
 abbrev pub EndsAsDue : {D : Type 0} → disks.Ghosts D → List (List ℕ) → List ℕ → Outside → Outside → program.Ended D

@@ -4,6 +4,7 @@ pub mod Doing
 pub mod Due
 pub mod Load
 pub mod LoadSteps
+pub mod Migrate
 pub mod Run
 pub mod Steps
 pub mod Service

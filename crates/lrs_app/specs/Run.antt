@@ -24,10 +24,11 @@ use Rattle.lrs_hall.specs.declared.serving.ServeEnd.{ServeEnd}
 use Rattle.lrs_app.specs.Disks.{AnyStopLeaves, Holds, LeavesFinal, LeavesLoaded, LeavesUnopened, StopNowLeaves}
 use Rattle.lrs_app.specs.Disks.{Taken}
 use Rattle.lrs_app.specs.Load.{LoadsFrom}
+use Rattle.lrs_app.specs.Migrate.{HasMoveCause, IsOnlyRead, MovesStore}
 use Rattle.lrs_app.specs.Service.{CountsOn, Doors, EndsService, HadDoors, HasNoDoor, HoldsServed, doors, responses_of}
 use Rattle.lrs_app.specs.declared.program.Ended as program
-use Rattle.lrs_command_line.specs.CommandLine.{CommandLine, init, intake, serve, load, IsCommandLine, base_of, limit_of}
-use Rattle.lrs_command_line.specs.CommandLine.{connections_of, count_of, seed_of, workers_of}
+use Rattle.lrs_command_line.specs.CommandLine.{CommandLine, init, intake, serve, load, migrate, IsCommandLine, base_of}
+use Rattle.lrs_command_line.specs.CommandLine.{chosen_limit_of, connections_of, count_of, limit_of, seed_of, workers_of}
 use Rattle.lrs_console.specs.Endings.{ending_status, ending_line}
 use Rattle.lrs_console.specs.Printing.{Prints}
 use Rattle.lrs_console.specs.Reading.{AreOfInput}
@@ -99,6 +100,17 @@ ReadsOnce clock before after = AddsReading before.readings after.readings clock
 -- this file was asked for once, and no other one
 abbrev pub TakesFile : List ℕ → Outside → Outside → Type 0
 TakesFile file before after = AddsName before.files after.files file
+
+-- These two files were asked for, one after the other, and no other one.
+abbrev pub TakesBoth : List ℕ → List ℕ → Outside → Outside → Type 0
+TakesBoth first second before after =
+    (between : Option (List (List ℕ))) × AddsName before.files between first × AddsName between after.files second
+
+-- The disk of the second of two files, as it was taken: as the shelf told of it before both. Where both disks read as
+-- empty it may be another one, since files that aren't there are made as they are asked for.
+abbrev pub IsTakenSecond : Outside → List ℕ → List ℕ → Taken → Type 0
+IsTakenSecond before first second taken = (before.holds first ≡ Some [] → before.holds second ≡ Some [] → ⊥)
+    → taken ≡ taken_from before second
 
 -- the input was left alone
 pub record SparesInput (before after : Outside) : Type 0 where
@@ -309,6 +321,21 @@ ServeLeaves d file address workers connections seed before after (Some disk) tal
     × CountsOn (taken_from before file).tide talks (tide_at d.fault_count d.time disk)
     × ServesDisk d (taken_from before file) disk address workers connections seed before.lobby after.lobby talks n end
 
+-- ---- migrate
+
+-- What migrate leaves, with both disks, with that of the old store alone, or without any. The new one isn't asked for
+-- unless the old one was had.
+abbrev pub MigrateLeaves : {D : Type 0} → disks.Ghosts D → List ℕ → List ℕ → Option ℕ → Outside → Outside → Option D
+    → Option D → Taken → ℕ → Ending → Type 0
+MigrateLeaves d old new limit before after None None taken n end =
+    TakesFile old before after × HasNoDisk before after n end
+MigrateLeaves d old new limit before after None (Some disk) taken n end = ⊥
+MigrateLeaves d old new limit before after (Some old_disk) None taken n end = TakesBoth old new before after
+    × HasNoDisk before after n end × IsOnlyRead d (taken_from before old) old_disk
+MigrateLeaves d old new limit before after (Some old_disk) (Some disk) taken n end = TakesBoth old new before after
+    × MovesStore d (taken_from before old) taken old_disk disk limit n end
+    × HasMoveCause (before.begins old) (d.fault_count old_disk) taken.tide.faults (d.fault_count disk) end
+
 -- ---- the headline
 
 -- A command that serves no connection: it reads the clock once, and asks for its one file. Its one ending is printed,
@@ -319,6 +346,7 @@ pub record IsOneStep {D : Type 0} (file : List ℕ) (before after : Outside) (o 
   pub takes : TakesFile file before after
   pub doors : SparesDoors before after
   pub silent : IsSilent o
+  pub old : o.old ≡ None
   pub prints : PrintsEnding end before after o.status
 
 -- intake ends so, at this reading of the clock
@@ -349,6 +377,7 @@ LoadRunsTo d file seed count draws before after o clocks end = AddsReadings befo
     × TakesFile file before after
     × SparesDoors before after
     × IsSilent o
+    × (o.old ≡ None)
     × LoadLeaves d file seed count draws clocks before after o.disk o.report.length end
     × PrintsEnding end before after o.status
 
@@ -363,6 +392,7 @@ abbrev pub ServeRunsTo : {D : Type 0} → disks.Ghosts D → List ℕ → List �
 ServeRunsTo d file address workers connections seed before after o end = (after.readings ≡ before.readings)
     × TakesFile file before after
     × (o.report.responses ≡ responses_of o.report.talks)
+    × (o.old ≡ None)
     × ServeLeaves d file address workers connections seed before after o.disk o.report.talks o.report.length end
     × PrintsEnding end before after o.status
 
@@ -370,6 +400,21 @@ abbrev pub ServeRuns : {D : Type 0} → disks.Ghosts D → List ℕ → List ℕ
     → program.Ended D → Type 0
 ServeRuns d file address workers connections seed before after o =
     (end : Ending) × ServeRunsTo d file address workers connections seed before after o end
+
+-- Migrate ends so, with the new disk as it was taken. It reads no clock, and serves no connection.
+pub record MigrateRunsTo {D : Type 0} (d : disks.Ghosts D) (old new : List ℕ) (limit : Option ℕ)
+    (before after : Outside) (o : program.Ended D) (taken : Taken) (end : Ending) : Type 0 where
+  pub readings : after.readings ≡ before.readings
+  pub doors : SparesDoors before after
+  pub silent : IsSilent o
+  pub second : IsTakenSecond before old new taken
+  pub leaves : MigrateLeaves d old new limit before after o.old o.disk taken o.report.length end
+  pub prints : PrintsEnding end before after o.status
+
+abbrev pub MigrateRuns : {D : Type 0} → disks.Ghosts D → List ℕ → List ℕ → Option ℕ → Outside → Outside
+    → program.Ended D → Type 0
+MigrateRuns d old new limit before after o =
+    (taken : Taken) × (end : Ending) × MigrateRunsTo d old new limit before after o taken end
 
 -- the one draw of intake is the first of stream 0, and those of load are the first ones
 abbrev pub CommandRuns : {D : Type 0} → disks.Ghosts D → CommandLine → List ℕ → Outside → Outside → program.Ended D
@@ -381,6 +426,8 @@ CommandRuns d (serve w) seed before after o =
     SparesInput before after × ServeRuns d w.file w.address (workers_of w) (connections_of w) seed before after o
 CommandRuns d (load w) seed before after o =
     SparesInput before after × LoadRuns d w.file (seed_of w) (count_of w) (start_of seed 0) before after o
+CommandRuns d (migrate w) seed before after o =
+    SparesInput before after × MigrateRuns d w.old w.new (chosen_limit_of w) before after o
 
 -- Nothing but the output was used.
 pub record IsIdle {D : Type 0} (before after : Outside) (o : program.Ended D) : Type 0 where
@@ -391,6 +438,7 @@ pub record IsIdle {D : Type 0} (before after : Outside) (o : program.Ended D) : 
   pub input : SparesInput before after
   pub doors : SparesDoors before after
   pub disk : o.disk ≡ None
+  pub old : o.old ≡ None
   pub length : o.report.length ≡ 0
   pub silent : IsSilent o
 

@@ -68,6 +68,7 @@ ending_of_trouble trouble.Disk = ending.DiskFault
 
 abbrev pub ending_of : DeskRefused → Ending
 ending_of desk.NotAStore = ending.NotAStore
+ending_of desk.OldFormat = ending.OldFormat
 ending_of (desk.Damaged k) = ending.Damaged k
 ending_of (desk.IllegalEntry k) = ending.Damaged k
 ending_of desk.Failed = ending.DiskFault

@@ -132,6 +132,7 @@ pub(crate) fn unopened(refused: DeskRefused) -> Ending
 {
     match refused {
         DeskRefused::NotAStore => Ending::NotAStore,
+        DeskRefused::OldFormat => Ending::OldFormat,
         DeskRefused::Damaged { k } => Ending::Damaged { k },
         DeskRefused::IllegalEntry { k } => Ending::Damaged { k },
         DeskRefused::Failed => Ending::DiskFault,

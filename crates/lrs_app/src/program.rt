@@ -1,4 +1,4 @@
-ghost use Rattle.std.specs.Prelude.{◌≡◌, ◌≤◌, [], IfOk, MatchOption};
+ghost use Rattle.std.specs.Prelude.{◌≡◌, ◌≤◌, [], IfOk, IfSome, MatchOption};
 ghost use Rattle.lrs_hall.specs.Draws.{draw_at, start_of};
 ghost use Rattle.lrs_hall.specs.LrsFoldOwn.{founding_entry};
 ghost use Rattle.lrs_journal.specs.Journal.{IsSynced};
@@ -7,15 +7,16 @@ ghost use Rattle.lrs_parts.specs.Founding.{IsToken, IsBase};
 ghost use Rattle.lrs_command_line.specs.CommandLine.{CommandLine, IsCommandLine};
 ghost use Rattle.lrs_command_line.specs.Shapes.{Denotes};
 ghost use Rattle.lrs_app.specs.Due.{EndsAsDue};
-ghost use Rattle.lrs_app.specs.Doing.{InitDoes, IntakeDoes, IsUndone, LoadDoes, ServeDoes};
+ghost use Rattle.lrs_app.specs.Doing.{InitDoes, IntakeDoes, IsUndone, LoadDoes, MigrateDoes, ServeDoes};
 ghost use Rattle.lrs_app.specs.Service.{doors};
-ghost use Rattle.lrs_app.specs.Run.{CommandRuns, InitRuns, IntakeRuns, LoadRuns, PrintsLine, Runs, ServeRuns, outside};
+ghost use Rattle.lrs_app.specs.Run.{CommandRuns, InitRuns, IntakeRuns, LoadRuns, MigrateRuns, PrintsLine, Runs, ServeRuns, outside};
 ghost use Rattle.lrs_app.specs.Steps.{DenotesInRange};
 ghost use Rattle.lrs_turn.specs.declared.turns.TheConstants.{MOST_PASSES};
 
 use crate::init::init_disk;
 use crate::intake::intake_disk;
 use crate::load::load_disk;
+use crate::migrate::migrate_disks;
 use crate::serve::{count_responses, serve_disk};
 use lrs_command_line::{ProgramCommand, read_words};
 use lrs_console::{Ending, finish};
@@ -56,8 +57,10 @@ fn silent(alloc: Global, length: u64) -> Report
 pub struct Ended<D> {
     /// The status with which the program ends.
     pub status: u8,
-    /// The disk that was taken, if one was.
+    /// The disk that was taken, if one was. Of `migrate` it is that of the new store.
     pub disk: Option<D>,
+    /// The disk of the old store, if `migrate` took it.
+    pub old: Option<D>,
     pub report: Report,
 }
 
@@ -66,6 +69,7 @@ pub struct Ended<D> {
 struct Done<D> {
     ending: Ending,
     disk: Option<D>,
+    old: Option<D>,
     report: Report,
 }
 
@@ -76,6 +80,7 @@ fn undone<D>(alloc: Global, ending: Ending) -> Done<D>
     Done {
         ending,
         disk: None,
+        old: None,
         report: silent(alloc, 0),
     }
 }
@@ -84,16 +89,19 @@ fn undone<D>(alloc: Global, ending: Ending) -> Done<D>
 fn end_run<D, O: Sink>(out: &mut O, done: Done<D>) -> Ended<D>
     ensures printed { PrintsLine O.Sink done.ending out.old out.new result.status }
     ensures disk { result.disk ≡ done.disk }
+    ensures old { result.old ≡ done.old }
     ensures report { result.report ≡ done.report }
 {
     let Done {
         ending,
         disk,
+        old,
         report,
     } = done;
     Ended {
         status: finish(out, ending),
         disk,
+        old,
         report,
     }
 }
@@ -115,6 +123,7 @@ fn intake<D: Disk, I: Source>(
             Done {
                 ending,
                 disk: Some(disk),
+                old: None,
                 report: silent(alloc, length),
             }
         }
@@ -141,6 +150,7 @@ fn load<D: Disk, B: Lobby>(
             Done {
                 ending,
                 disk: Some(disk),
+                old: None,
                 report: silent(alloc, length),
             }
         }
@@ -169,6 +179,7 @@ fn init<D: Disk>(
             Done {
                 ending,
                 disk: Some(disk),
+                old: None,
                 report: silent(alloc, length),
             }
         }
@@ -201,6 +212,7 @@ where
             Done {
                 ending: service.ending,
                 disk: Some(service.disk),
+                old: None,
                 report: Report {
                     talks: service.talks,
                     responses,
@@ -209,6 +221,32 @@ where
             }
         }
         Err(_) => undone(alloc, Ending::DiskFault),
+    }
+}
+
+// Moves the store of the first disk to the second.
+fn migrate<D: Disk>(alloc: Global, old: D, taken: Result<D, Failed>, limit: Option<u64>) -> Done<D>
+    requires old { IsSynced D.told D.image old }
+    requires settled { IfOk taken (λ disk. IsSynced D.told D.image disk) }
+    requires limit { IfSome limit IsLimit }
+    ensures { MigrateDoes D.Disk old taken limit result }
+{
+    match taken {
+        Ok(new) => {
+            let moved = migrate_disks(alloc, old, new, limit);
+            Done {
+                ending: moved.ending,
+                disk: Some(moved.new),
+                old: Some(moved.old),
+                report: silent(alloc, moved.length),
+            }
+        }
+        Err(_) => Done {
+            ending: Ending::DiskFault,
+            disk: None,
+            old: Some(old),
+            report: silent(alloc, 0),
+        },
     }
 }
 
@@ -314,6 +352,30 @@ fn run_load<S: Shelf, B: Lobby, I: Source, O: Sink>(
     end_run(out, done)
 }
 
+fn run_migrate<S: Shelf, B: Lobby, I: Source, O: Sink>(
+    alloc: Global,
+    old: &Text,
+    new: &Text,
+    limit: Option<u64>,
+    shelf: &mut S,
+    lobby: &B,
+    input: &I,
+    out: &mut O,
+) -> Ended<S::Disk>
+    requires differ { old.now ≡ new.now → ⊥ }
+    requires limit { IfSome limit IsLimit }
+    ensures { let seen = outside S.Shelf B.Lobby I.Source O.Sink in MigrateRuns S.Disk.Disk old.now new.now limit
+        (seen shelf.old lobby.now input.now out.old) (seen shelf.new lobby.now input.now out.new) result }
+{
+    match shelf.take(old.as_str()) {
+        Ok(disk) => {
+            let taken = shelf.take(new.as_str());
+            end_run(out, migrate(alloc, disk, taken, limit))
+        }
+        Err(_) => end_run(out, undone(alloc, Ending::DiskFault)),
+    }
+}
+
 fn run_command<R: Threads + Wait + Sync, S: Shelf, B: Lobby, I: Source, O: Sink>(
     rt: &R,
     alloc: Global,
@@ -363,6 +425,9 @@ where
             seed: number,
             count,
         } => run_load(alloc, file, *number, *count, seed, shelf, lobby, input, out),
+        ProgramCommand::Migrate { old, new, limit } => {
+            run_migrate(alloc, old, new, *limit, shelf, lobby, input, out)
+        }
     }
 }
 
@@ -398,12 +463,13 @@ where
 /// store. `intake FILE` keeps one statement of the input and prints its id. `load FILE SEED N` makes N statements of a
 /// number, posts them in batches of 100, and prints N and how many statements the store lists then. `serve FILE ADDRESS
 /// --workers W --connections N` serves N connections by each of W workers over HTTP and prints the number of their
-/// responses. Every line is printed to `out`. The one draw of an intake is the first of stream 0 under the seed, those
-/// of a load are the first ones; worker k, counted from 1, has those of stream k.
+/// responses. `migrate OLD NEW [--limit BYTES]` makes a store in NEW with the entries of that in OLD, which may have
+/// either format, and prints their number. Every line is printed to `out`. The one draw of an intake is the first of
+/// stream 0 under the seed, those of a load are the first ones; worker k, counted from 1, has those of stream k.
 ///
 /// It may be stopped at any moment. Then the file holds the first entries of the final history: at least those from
-/// before the run, and whatever a response without trouble promised. A stopped `init` leaves no store or the new one,
-/// and what isn't open to a new store as it was.
+/// before the run, and whatever a response without trouble promised. A stopped `init` leaves no store or the whole new
+/// one, and so does `migrate` in NEW. Neither changes a file on which no store may be made, and OLD is only read.
 pub fn run<R: Threads + Wait + Sync, S: Shelf, B: Lobby, I: Source, O: Sink>(
     rt: &R,
     alloc: Global,

@@ -6,8 +6,8 @@ use Rattle.clap.specs.Walk.{Row, Text}
 use Rattle.clap.specs.Simple.{subcommand_of}
 use Rattle.clap.specs.Faults.{fault_of}
 use Rattle.lrs_json.specs.Names.{is_among}
-use Rattle.lrs_command_line.specs.CommandLine.{Part, CommandLine, init, intake, serve, load, IsLineOf, IsPlain, IsNamed, IsCommandLine, IsTaken, ArePartsOf, Gives, words_of, value_of, is_no_option, options_of, program, whole_line}
-use Rattle.lrs_command_line.specs.Shapes.{IsReadAs, Denotes, is_plain, alone, value_behind, said_by, init_with, intake_with, serve_with, load_with, init_in, intake_in, serve_in, load_in, command_in, is_faulty, is_nonempty, taken, named}
+use Rattle.lrs_command_line.specs.CommandLine.{Part, CommandLine, init, intake, serve, load, migrate, IsLineOf, IsPlain, IsNamed, IsCommandLine, IsTaken, ArePartsOf, Gives, words_of, value_of, is_no_option, options_of, program, whole_line}
+use Rattle.lrs_command_line.specs.Shapes.{IsReadAs, Denotes, is_plain, alone, value_behind, said_by, init_with, intake_with, serve_with, load_with, migrate_with, init_in, intake_in, serve_in, load_in, migrate_in, command_in, is_faulty, is_nonempty, taken, named}
 use Rattle.lrs_command_line.specs.declared.words.ProgramCommand.{ProgramCommand}
 use Rattle.lrs_command_line.proofs.Plain.{AreOptions, same, plain_line, parts_of, alone_of, value_found}
 
@@ -24,12 +24,14 @@ no_more name e = cc
 
 options_are : (words : List (List ℕ)) → AreOptions (options_of words)
 options_are [] = no_more
-options_are (name ∷ words) = by (bytes_eq name (codes "init")) (bytes_eq name (codes "serve")) where
-  by : (a b : Bool) → AreOptions (cond a (codes "--admin" ∷ codes "--base" ∷ codes "--limit" ∷ []) (cond b (codes "--workers" ∷ codes "--connections" ∷ []) []))
-  by true b = and_more (codes "--admin") (codes "--base" ∷ codes "--limit" ∷ []) refl
+options_are (name ∷ words) = by (bytes_eq name (codes "init")) (bytes_eq name (codes "serve")) (bytes_eq name (codes "migrate")) where
+  by : (a b c : Bool)
+      → AreOptions (cond a (codes "--admin" ∷ codes "--base" ∷ codes "--limit" ∷ []) (cond b (codes "--workers" ∷ codes "--connections" ∷ []) (cond c (codes "--limit" ∷ []) [])))
+  by true b c = and_more (codes "--admin") (codes "--base" ∷ codes "--limit" ∷ []) refl
       (and_more (codes "--base") (codes "--limit" ∷ []) refl (and_more (codes "--limit") [] refl no_more))
-  by false true = and_more (codes "--workers") (codes "--connections" ∷ []) refl (and_more (codes "--connections") [] refl no_more)
-  by false false = no_more
+  by false true c = and_more (codes "--workers") (codes "--connections" ∷ []) refl (and_more (codes "--connections") [] refl no_more)
+  by false false true = and_more (codes "--limit") [] refl no_more
+  by false false false = no_more
 
 -- ---- what a plain line says
 
@@ -47,7 +49,8 @@ said_as parts words is =
     by [] = refl
     by (name ∷ []) = refl
     by (name ∷ file ∷ []) = rw (found (codes "--admin") parts words refl is, found (codes "--base") parts words refl is, found (codes "--limit") parts words refl is) refl
-    by (name ∷ file ∷ address ∷ []) = rw (found (codes "--workers") parts words refl is, found (codes "--connections") parts words refl is) refl
+    by (name ∷ file ∷ second ∷ []) =
+        rw (found (codes "--workers") parts words refl is, found (codes "--connections") parts words refl is, found (codes "--limit") parts words refl is) refl
     by (name ∷ file ∷ seed ∷ count ∷ []) = refl
     by (name ∷ file ∷ seed ∷ count ∷ more ∷ rest) = refl
 
@@ -56,6 +59,7 @@ said parts (init w) is = rw (is.0, is.1, is.2, is.3) refl
 said parts (intake file) is = rw is refl
 said parts (serve w) is = rw (is.0, is.1, is.2) refl
 said parts (load w) is = rw is refl
+said parts (migrate w) is = rw (is.0, is.1) refl
 
 init_is : (file : List ℕ) (admin base limit : Option (List ℕ)) (c : CommandLine) → init_with (Some file) admin base limit ≡ Some c
     → (a : List ℕ) × (admin ≡ Some a) × (init (record { file = file; admin = a; base = base; limit = limit }) ≡ c)
@@ -80,12 +84,16 @@ says parts c e = by (words_of parts) refl e where
       let c_is : intake file ≡ c = cc in subst (ArePartsOf parts) c_is (is ∙ ap (λ n. n ∷ file ∷ []) (same name (codes "intake") y))
   with_file name file is false false x y e = cc
 
-  with_address : (name file address : List ℕ) → words_of parts ≡ name ∷ file ∷ address ∷ [] → (a : Bool) → bytes_eq name (codes "serve") ≡ a
-      → cond a (serve_with (Some file) (Some address) (value_of (codes "--workers") parts) (value_of (codes "--connections") parts)) None ≡ Some c → ArePartsOf parts c
-  with_address name file address is true x e =
-      let i = serve_is file address (value_of (codes "--workers") parts) (value_of (codes "--connections") parts) c e in
-      subst (ArePartsOf parts) i.4 (is ∙ ap (λ n. n ∷ file ∷ address ∷ []) (same name (codes "serve") x), i.2, i.3)
-  with_address name file address is false x e = cc
+  with_second : (name file second : List ℕ) → words_of parts ≡ name ∷ file ∷ second ∷ [] → (a b : Bool) → bytes_eq name (codes "serve") ≡ a → bytes_eq name (codes "migrate") ≡ b
+      → cond a (serve_with (Some file) (Some second) (value_of (codes "--workers") parts) (value_of (codes "--connections") parts))
+      (cond b (migrate_with (Some file) (Some second) (value_of (codes "--limit") parts)) None) ≡ Some c → ArePartsOf parts c
+  with_second name file second is true b x y e =
+      let i = serve_is file second (value_of (codes "--workers") parts) (value_of (codes "--connections") parts) c e in
+      subst (ArePartsOf parts) i.4 (is ∙ ap (λ n. n ∷ file ∷ second ∷ []) (same name (codes "serve") x), i.2, i.3)
+  with_second name file second is false true x y e =
+      let c_is : migrate (record { old = file; new = second; limit = value_of (codes "--limit") parts }) ≡ c = cc in
+      subst (ArePartsOf parts) c_is (is ∙ ap (λ n. n ∷ file ∷ second ∷ []) (same name (codes "migrate") y), refl)
+  with_second name file second is false false x y e = cc
 
   with_seed : (name file seed count : List ℕ) → words_of parts ≡ name ∷ file ∷ seed ∷ count ∷ [] → (a : Bool) → bytes_eq name (codes "load") ≡ a
       → cond a (Some (load (record { file = file; seed = seed; count = count }))) None ≡ Some c → ArePartsOf parts c
@@ -98,7 +106,7 @@ says parts c e = by (words_of parts) refl e where
   by [] is e = cc
   by (name ∷ []) is e = cc
   by (name ∷ file ∷ []) is e = with_file name file is (bytes_eq name (codes "init")) (bytes_eq name (codes "intake")) refl refl e
-  by (name ∷ file ∷ address ∷ []) is e = with_address name file address is (bytes_eq name (codes "serve")) refl e
+  by (name ∷ file ∷ second ∷ []) is e = with_second name file second is (bytes_eq name (codes "serve")) (bytes_eq name (codes "migrate")) refl refl e
   by (name ∷ file ∷ seed ∷ count ∷ []) is e = with_seed name file seed count is (bytes_eq name (codes "load")) refl e
   by (name ∷ file ∷ seed ∷ count ∷ more ∷ rest) is e = cc
 
@@ -110,6 +118,7 @@ given (Some f) (init w) is = rw (is.0, is.1, is.2, is.3, is.4) refl
 given (Some f) (intake file) is = rw (is.0, is.1) refl
 given (Some f) (serve w) is = rw (is.0, is.1, is.2, is.3, is.4) refl
 given (Some f) (load w) is = rw (is.0, is.1, is.2, is.3) refl
+given (Some f) (migrate w) is = rw (is.0, is.1, is.2, is.3) refl
 
 init_found : (file admin base limit : Option (List ℕ)) (c : CommandLine) → init_with file admin base limit ≡ Some c
     → (f : List ℕ) × (a : List ℕ) × (file ≡ Some f) × (admin ≡ Some a) × (init (record { file = f; admin = a; base = base; limit = limit }) ≡ c)
@@ -137,21 +146,31 @@ load_found (Some f) None count c e = cc
 load_found (Some f) (Some s) None c e = cc
 load_found (Some f) (Some s) (Some n) c e = (f, s, n, refl, refl, refl, cc)
 
+migrate_found : (old new limit : Option (List ℕ)) (c : CommandLine) → migrate_with old new limit ≡ Some c
+    → (o : List ℕ) × (n : List ℕ) × (old ≡ Some o) × (new ≡ Some n) × (migrate (record { old = o; new = n; limit = limit }) ≡ c)
+migrate_found None new limit c e = cc
+migrate_found (Some o) None limit c e = cc
+migrate_found (Some o) (Some n) limit c e = (o, n, refl, refl, cc)
+
 gives : (m : Option (Text × List Row)) (c : CommandLine) → option_and_then command_in m ≡ Some c → Gives m c
 gives None c e = cc
 gives (Some f) c e =
-    by (bytes_eq f.0 (codes "init")) (bytes_eq f.0 (codes "intake")) (bytes_eq f.0 (codes "serve")) (bytes_eq f.0 (codes "load")) refl refl refl refl e where
-      by : (x y z u : Bool) → bytes_eq f.0 (codes "init") ≡ x → bytes_eq f.0 (codes "intake") ≡ y → bytes_eq f.0 (codes "serve") ≡ z → bytes_eq f.0 (codes "load") ≡ u
-          → cond x (init_in f.1) (cond y (intake_in f.1) (cond z (serve_in f.1) (cond u (load_in f.1) None))) ≡ Some c → Gives (Some f) c
-      by true y z u p q r s e =
+    by (bytes_eq f.0 (codes "init")) (bytes_eq f.0 (codes "intake")) (bytes_eq f.0 (codes "serve")) (bytes_eq f.0 (codes "load")) (bytes_eq f.0 (codes "migrate"))
+    refl refl refl refl refl e where
+      by : (x y z u v : Bool) → bytes_eq f.0 (codes "init") ≡ x → bytes_eq f.0 (codes "intake") ≡ y → bytes_eq f.0 (codes "serve") ≡ z → bytes_eq f.0 (codes "load") ≡ u
+          → bytes_eq f.0 (codes "migrate") ≡ v
+          → cond x (init_in f.1) (cond y (intake_in f.1) (cond z (serve_in f.1) (cond u (load_in f.1) (cond v (migrate_in f.1) None)))) ≡ Some c → Gives (Some f) c
+      by true y z u v p q r s t e =
           let i = init_found _ _ _ _ c e in subst (Gives (Some f)) i.4 (same f.0 (codes "init") p, i.2, i.3, refl, refl)
-      by false true z u p q r s e =
+      by false true z u v p q r s t e =
           let i = intake_found _ c e in subst (Gives (Some f)) i.2 (same f.0 (codes "intake") q, i.1)
-      by false false true u p q r s e =
+      by false false true u v p q r s t e =
           let i = serve_found _ _ _ _ c e in subst (Gives (Some f)) i.8 (same f.0 (codes "serve") r, i.4, i.5, i.6, i.7)
-      by false false false true p q r s e =
+      by false false false true v p q r s t e =
           let i = load_found _ _ _ c e in subst (Gives (Some f)) i.6 (same f.0 (codes "load") s, i.3, i.4, i.5)
-      by false false false false p q r s e = cc
+      by false false false false true p q r s t e =
+          let i = migrate_found _ _ _ c e in subst (Gives (Some f)) i.4 (same f.0 (codes "migrate") t, i.2, i.3, refl)
+      by false false false false false p q r s t e = cc
 
 -- ---- the whole
 

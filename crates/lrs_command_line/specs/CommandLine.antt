@@ -1,8 +1,8 @@
 -- The words of the command line: `init FILE --admin TOKEN [--base URL] [--limit BYTES]`, `intake FILE`,
--- `serve FILE ADDRESS --workers W --connections N` and `load FILE SEED N`, each option with its value anywhere
--- after the command's name.
+-- `serve FILE ADDRESS --workers W --connections N`, `load FILE SEED N` and `migrate OLD NEW [--limit BYTES]`, each
+-- option with its value anywhere after the command's name.
 use Rattle.std.specs.Prelude.{◌≡◌, ◌<◌, ◌≤◌, ◌⊎◌, ◌==◌, ◌-◌, ◌^◌, ⊤, not, ℕ, Bool, true, false, List, [], ◌∷◌, length}
-use Rattle.std.specs.Prelude.{Option, Some, None, IfSome, if◌then◌else◌, unwrap_or, codes}
+use Rattle.std.specs.Prelude.{Option, Some, None, IfSome, if◌then◌else◌, option_map, unwrap_or, codes}
 use Rattle.std.specs.Option.{option_map_or}
 use Rattle.std.specs.Char.{is_ascii_digit}
 use Rattle.std.specs.List.{list_all}
@@ -60,7 +60,8 @@ ArePlain options (option name value ∷ parts) =
 abbrev pub options_of_command : List ℕ → List (List ℕ)
 options_of_command name =
     if bytes_eq name (codes "init") then codes "--admin" ∷ codes "--base" ∷ codes "--limit" ∷ []
-    else (if bytes_eq name (codes "serve") then codes "--workers" ∷ codes "--connections" ∷ [] else [])
+    else (if bytes_eq name (codes "serve") then codes "--workers" ∷ codes "--connections" ∷ []
+    else (if bytes_eq name (codes "migrate") then codes "--limit" ∷ [] else []))
 
 -- the options of the command that the first word names
 abbrev pub options_of : List (List ℕ) → List (List ℕ)
@@ -97,12 +98,19 @@ pub record LoadWords : Type 0 where
   pub seed : List ℕ
   pub count : List ℕ
 
+-- what the words of `migrate` name
+pub record MigrateWords : Type 0 where
+  pub old : List ℕ
+  pub new : List ℕ
+  pub limit : Option (List ℕ)
+
 -- a command, as its words name it
 pub data CommandLine : Type 0 where
   init : InitWords → CommandLine
   intake : List ℕ → CommandLine
   serve : ServeWords → CommandLine
   load : LoadWords → CommandLine
+  migrate : MigrateWords → CommandLine
 
 -- The parts of a plain line are this command's: its words and the options that it requires all stand there, and no word
 -- too many.
@@ -115,6 +123,8 @@ ArePartsOf parts (serve w) = (words_of parts ≡ codes "serve" ∷ w.file ∷ w.
     × (value_of (codes "--workers") parts ≡ Some w.workers)
     × (value_of (codes "--connections") parts ≡ Some w.connections)
 ArePartsOf parts (load w) = words_of parts ≡ codes "load" ∷ w.file ∷ w.seed ∷ w.count ∷ []
+ArePartsOf parts (migrate w) = (words_of parts ≡ codes "migrate" ∷ w.old ∷ w.new ∷ [])
+    × (value_of (codes "--limit") parts ≡ w.limit)
 
 -- ---- other lines, as clap takes them
 
@@ -145,12 +155,17 @@ load_app = with_rule
     (with_rule (with_rule (new_app (codes "load")) (required (codes "file"))) (required (codes "seed")))
     (required (codes "count"))
 
+abbrev pub migrate_app : App
+migrate_app = with_rule
+    (with_rule (with_rule (new_app (codes "migrate")) (required (codes "old"))) (required (codes "new")))
+    (optional (codes "limit"))
+
 -- the program with the first two of its commands
 abbrev pub program_begun : App
 program_begun = with_subcommand (with_subcommand (new_app (codes "kilnlime")) init_app.top) intake_app.top
 
 abbrev pub program : App
-program = with_subcommand (with_subcommand program_begun serve_app.top) load_app.top
+program = with_subcommand (with_subcommand (with_subcommand program_begun serve_app.top) load_app.top) migrate_app.top
 
 -- the words with the program's name before them
 abbrev pub whole_line : List Text → List Text
@@ -170,6 +185,8 @@ Gives (Some found) (serve w) = (found.0 ≡ codes "serve") × (first_of (codes "
 Gives (Some found) (load w) = (found.0 ≡ codes "load") × (first_of (codes "file") found.1 ≡ Some w.file)
     × (first_of (codes "seed") found.1 ≡ Some w.seed)
     × (first_of (codes "count") found.1 ≡ Some w.count)
+Gives (Some found) (migrate w) = (found.0 ≡ codes "migrate") × (first_of (codes "old") found.1 ≡ Some w.old)
+    × (first_of (codes "new") found.1 ≡ Some w.new) × (first_of (codes "limit") found.1 ≡ w.limit)
 
 -- clap refuses the words for no cause, and gives the command
 pub record IsTaken (words : List (List ℕ)) (c : CommandLine) : Type 0 where
@@ -228,11 +245,21 @@ seed_of w = digits_value 10 w.seed
 abbrev pub count_of : LoadWords → ℕ
 count_of w = digits_value 10 w.count
 
+-- the two files have different names, if not always different places
+pub record IsMigrateInRange (w : MigrateWords) : Type 0 where
+  pub differ : w.old ≡ w.new → ⊥
+  pub limit : IfSome w.limit IsLimitWord
+
+-- the limit of the new store, if the words say one
+abbrev pub chosen_limit_of : MigrateWords → Option ℕ
+chosen_limit_of w = option_map (digits_value 10) w.limit
+
 abbrev pub IsInRange : CommandLine → Type 0
 IsInRange (init w) = IsInitInRange w
 IsInRange (intake file) = ⊤
 IsInRange (serve w) = IsServeInRange w
 IsInRange (load w) = IsLoadInRange w
+IsInRange (migrate w) = IsMigrateInRange w
 
 -- a plain line is a command's by its parts, and any other line as clap takes it
 abbrev pub IsNamed : List (List ℕ) → CommandLine → Type 0

@@ -9,9 +9,9 @@ use Rattle.clap.specs.declared.builder.command.Command.{Command as ClapCommand}
 use Rattle.clap.specs.declared.builder.command.Command.TheViews.{out-Command as fields_of}
 use Rattle.clap.specs.Faults.{fault_of}
 use Rattle.lrs_json.specs.Names.{is_among}
-use Rattle.lrs_command_line.specs.CommandLine.{CommandLine, init, intake, serve, load, IsInRange, base_of, limit_of}
-use Rattle.lrs_command_line.specs.CommandLine.{connections_of, count_of, is_no_option, options_of, program, seed_of}
-use Rattle.lrs_command_line.specs.CommandLine.{whole_line, workers_of}
+use Rattle.lrs_command_line.specs.CommandLine.{CommandLine, init, intake, serve, load, migrate, IsInRange, base_of}
+use Rattle.lrs_command_line.specs.CommandLine.{chosen_limit_of, connections_of, count_of, is_no_option, limit_of}
+use Rattle.lrs_command_line.specs.CommandLine.{options_of, program, seed_of, whole_line, workers_of}
 use Rattle.lrs_command_line.specs.declared.words.CommandLine as code
 use Rattle.lrs_command_line.specs.declared.words.CommandLine.TheVariants as line
 use Rattle.lrs_command_line.specs.declared.words.ProgramCommand.{ProgramCommand}
@@ -24,6 +24,8 @@ command_of (line.Intake file) = intake file.now
 command_of (line.Serve file address workers connections) =
     serve (record { file = file.now; address = address.now; workers = workers.now; connections = connections.now })
 command_of (line.Load file seed count) = load (record { file = file.now; seed = seed.now; count = count.now })
+command_of (line.Migrate old new limit) =
+    migrate (record { old = old.now; new = new.now; limit = option_copied limit })
 
 -- the words as they were read mean this command
 abbrev pub Denotes : ProgramCommand → CommandLine → Type 0
@@ -33,6 +35,7 @@ Denotes (words.Intake file) (intake name) = file ≡ name
 Denotes (words.Serve file address workers connections) (serve w) = (file ≡ w.file) × (address ≡ w.address)
     × (workers ≡ workers_of w) × (connections ≡ connections_of w)
 Denotes (words.Load file seed count) (load w) = (file ≡ w.file) × (seed ≡ seed_of w) × (count ≡ count_of w)
+Denotes (words.Migrate old new limit) (migrate w) = (old ≡ w.old) × (new ≡ w.new) × (limit ≡ chosen_limit_of w)
 Denotes other command = ⊥
 
 -- the words were read as this command, or refused for a value out of its range, if they name it
@@ -85,6 +88,10 @@ abbrev pub load_with : Option (List ℕ) → Option (List ℕ) → Option (List 
 load_with (Some file) (Some seed) (Some count) = Some (load (record { file = file; seed = seed; count = count }))
 load_with file seed count = None
 
+abbrev pub migrate_with : Option (List ℕ) → Option (List ℕ) → Option (List ℕ) → Option CommandLine
+migrate_with (Some old) (Some new) limit = Some (migrate (record { old = old; new = new; limit = limit }))
+migrate_with old new limit = None
+
 -- three words after this name
 abbrev pub load_said : List ℕ → List ℕ → List ℕ → List ℕ → Option CommandLine
 load_said name file seed count = if bytes_eq name (codes "load")
@@ -95,9 +102,11 @@ said_by (name ∷ file ∷ []) value =
     if bytes_eq name (codes "init")
     then init_with (Some file) (value (codes "--admin")) (value (codes "--base")) (value (codes "--limit"))
     else (if bytes_eq name (codes "intake") then Some (intake file) else None)
-said_by (name ∷ file ∷ address ∷ []) value =
+said_by (name ∷ file ∷ second ∷ []) value =
     if bytes_eq name (codes "serve")
-    then serve_with (Some file) (Some address) (value (codes "--workers")) (value (codes "--connections")) else None
+    then serve_with (Some file) (Some second) (value (codes "--workers")) (value (codes "--connections"))
+    else (if bytes_eq name (codes "migrate") then migrate_with (Some file) (Some second) (value (codes "--limit"))
+    else None)
 said_by (name ∷ file ∷ seed ∷ count ∷ []) value = load_said name file seed count
 said_by words value = None
 
@@ -121,12 +130,17 @@ serve_in rows = serve_with (first_of (codes "file") rows) (first_of (codes "addr
 abbrev pub load_in : List Row → Option CommandLine
 load_in rows = load_with (first_of (codes "file") rows) (first_of (codes "seed") rows) (first_of (codes "count") rows)
 
+abbrev pub migrate_in : List Row → Option CommandLine
+migrate_in rows =
+    migrate_with (first_of (codes "old") rows) (first_of (codes "new") rows) (first_of (codes "limit") rows)
+
 abbrev pub command_in : Text × List Row → Option CommandLine
 command_in found =
     if bytes_eq found.0 (codes "init") then init_in found.1
     else (if bytes_eq found.0 (codes "intake") then intake_in found.1
     else (if bytes_eq found.0 (codes "serve") then serve_in found.1
-    else (if bytes_eq found.0 (codes "load") then load_in found.1 else None)))
+    else (if bytes_eq found.0 (codes "load") then load_in found.1
+    else (if bytes_eq found.0 (codes "migrate") then migrate_in found.1 else None))))
 
 abbrev pub is_nonempty : {X : Type 0} → List X → Bool
 is_nonempty [] = false

@@ -9,10 +9,13 @@ use lrs_turn::MOST_PASSES;
 use std::alloc::Global;
 use std::fmt;
 
+const COMMANDS: &str = "init, intake, serve, load or migrate";
+
 // What a word has to be.
 #[derive(Clone, Copy)]
 enum Value {
     File,
+    NewFile,
     Address,
     Token,
     Base,
@@ -25,6 +28,7 @@ impl fmt::Display for Value {
     fn fmt<W: fmt::Write>(&self, f: &mut fmt::Formatter<W>) -> fmt::Result {
         match self {
             Value::File => f.write_str("the store's file"),
+            Value::NewFile => f.write_str("the new store's file, another one than OLD"),
             Value::Address => f.write_str("an address, such as 127.0.0.1:8080"),
             Value::Token => f.write_str("8 to 64 letters and digits"),
             Value::Base => {
@@ -63,6 +67,15 @@ const FILE: Argument = Argument {
     is_needed: true,
 };
 
+const LIMIT: Argument = Argument {
+    name: "--limit",
+    value: Value::Number {
+        least: LEAST_BYTES,
+        most: MOST_BYTES,
+    },
+    is_needed: false,
+};
+
 const INIT: Shape = Shape {
     name: "init",
     alone: &[FILE],
@@ -78,14 +91,7 @@ const INIT: Shape = Shape {
             value: Value::Base,
             is_needed: false,
         },
-        Argument {
-            name: "--limit",
-            value: Value::Number {
-                least: LEAST_BYTES,
-                most: MOST_BYTES,
-            },
-            is_needed: false,
-        },
+        LIMIT,
     ],
     told_options: "--admin, --base and --limit",
 };
@@ -156,6 +162,25 @@ const LOAD: Shape = Shape {
     told_options: "none",
 };
 
+const MIGRATE: Shape = Shape {
+    name: "migrate",
+    alone: &[
+        Argument {
+            name: "OLD",
+            value: Value::File,
+            is_needed: true,
+        },
+        Argument {
+            name: "NEW",
+            value: Value::NewFile,
+            is_needed: true,
+        },
+    ],
+    told_alone: "OLD and NEW",
+    options: &[LIMIT],
+    told_options: "--limit",
+};
+
 // What is wrong with the words, and with which of them.
 #[derive(Clone, Copy)]
 enum Fault<'a> {
@@ -177,12 +202,10 @@ impl fmt::Display for Fault<'_> {
     fn fmt<W: fmt::Write>(&self, f: &mut fmt::Formatter<W>) -> fmt::Result {
         match self {
             Fault::NotUtf8 => f.write_str("each word must be UTF-8"),
-            Fault::NoWord => {
-                f.write_str("the first word must be a command: init, intake, serve or load")
-            }
+            Fault::NoWord => write!(f, "the first word must be a command: {COMMANDS}"),
             Fault::NoCommand(word) => {
                 let word = word.escape_debug();
-                write!(f, "`{word}` must be a command: init, intake, serve or load")
+                write!(f, "`{word}` must be a command: {COMMANDS}")
             }
             Fault::Missing(Argument { name, value, .. }) => {
                 write!(f, "`{name}` is missing: {value}")
@@ -238,6 +261,7 @@ fn shape_of(command: &str) -> Option<Shape> {
         "intake" => Some(INTAKE),
         "serve" => Some(SERVE),
         "load" => Some(LOAD),
+        "migrate" => Some(MIGRATE),
         _ => None,
     }
 }
@@ -304,16 +328,27 @@ fn lacking(alloc: Global, word: &str, value: Value) -> Option<Value> {
     if fits { None } else { Some(value) }
 }
 
-// Looks at a word that stands alone. What is still to come is given back.
+fn is_same(word: &str, other: Option<&Text>) -> bool {
+    match other {
+        Some(other) => other.as_str() == word,
+        None => false,
+    }
+}
+
+// Looks at a word that stands alone, behind another one or none. What is still to come is given back.
 fn check_alone<'a>(
     alloc: Global,
     shape: Shape,
     left: &'static [Argument],
+    before: Option<&Text>,
     word: &'a str,
 ) -> Result<&'static [Argument], Fault<'a>> {
     let [argument, left @ ..] = left else {
         return Err(Fault::TooMany(word, shape));
     };
+    if matches!(argument.value, Value::NewFile) && is_same(word, before) {
+        return Err(Fault::WrongWord(argument.name, word, argument.value));
+    }
     match lacking(alloc, word, argument.value) {
         Some(value) => Err(Fault::WrongWord(argument.name, word, value)),
         None => Ok(left),
@@ -353,17 +388,21 @@ fn check_option<'a>(
 // Looks at the words after a command's name up to the first one that is wrong, then for a word that is missing.
 fn check_words<'a>(alloc: Global, shape: Shape, words: &'a [Text]) -> Result<(), Fault<'a>> {
     let mut left = shape.alone;
+    let mut before: Option<&Text> = None;
     let mut waiting: Option<Argument> = None;
     let mut ended = false;
-    for word in words {
-        let word = word.as_str();
+    for text in words {
+        let word = text.as_str();
         match waiting {
             Some(option) if is_option(word) => return Err(Fault::NoValue(option)),
             Some(option) => {
                 check_value(alloc, option, word)?;
                 waiting = None;
             }
-            None if ended || !is_option(word) => left = check_alone(alloc, shape, left, word)?,
+            None if ended || !is_option(word) => {
+                left = check_alone(alloc, shape, left, before, word)?;
+                before = Some(text);
+            }
             None if word == "--" => ended = true,
             None => waiting = check_option(alloc, shape, words, word)?,
         }

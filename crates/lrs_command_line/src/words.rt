@@ -4,7 +4,7 @@ ghost use Rattle.std.specs.List.{list_all};
 ghost use Rattle.std.specs.Option.{SomeIff, option_copied, option_map_or};
 ghost use Rattle.std.specs.Str.Parse.{digits_value};
 ghost use Rattle.lrs_state.specs.Founding.{IsToken, IsBase};
-ghost use Rattle.lrs_command_line.specs.CommandLine.{CommandLine as SpecCommandLine, init, serve, load, InitWords, ServeWords, LoadWords, IsCommandLine, IsInRange, IsInitInRange, IsServeInRange, IsLoadInRange, IsNumberWord, IsNumberIn, IsLimitWord};
+ghost use Rattle.lrs_command_line.specs.CommandLine.{CommandLine as SpecCommandLine, init, serve, load, migrate, InitWords, ServeWords, LoadWords, MigrateWords, IsCommandLine, IsInRange, IsInitInRange, IsServeInRange, IsLoadInRange, IsMigrateInRange, IsNumberWord, IsNumberIn, IsLimitWord};
 ghost use Rattle.lrs_command_line.specs.Shapes.{IsReadAs, Denotes, command_of, named};
 
 mod plain;
@@ -57,6 +57,12 @@ pub enum ProgramCommand {
         seed: u64,
         count: u32,
     },
+    /// Without a limit, the new store has that of the old one.
+    Migrate {
+        old: Text,
+        new: Text,
+        limit: Option<u64>,
+    },
 }
 
 // A command as its words name it, before a value is looked at.
@@ -81,6 +87,11 @@ enum CommandLine<'a> {
         file: &'a str,
         seed: &'a str,
         count: &'a str,
+    },
+    Migrate {
+        old: &'a str,
+        new: &'a str,
+        limit: Option<&'a str>,
     },
 }
 
@@ -117,6 +128,18 @@ fn read_limit(limit: Option<&str>) -> Option<u64>
     match limit {
         Some(word) => read_number(word, LEAST_BYTES, MOST_BYTES),
         None => Some(DEFAULT_LIMIT),
+    }
+}
+
+// The same, if the words may leave it open.
+fn read_chosen_limit(limit: Option<&str>) -> Option<Option<u64>>
+    ensures { MatchOption result (IfSome (option_copied limit.entry) IsLimitWord → ⊥)
+        (λ chosen. IfSome (option_copied limit.entry) IsLimitWord
+        × (chosen ≡ option_map (digits_value 10) (option_copied limit.entry))) }
+{
+    match limit {
+        Some(word) => read_number(word, LEAST_BYTES, MOST_BYTES).map(Some),
+        None => Some(None),
     }
 }
 
@@ -242,6 +265,33 @@ fn test_load(
     }
 }
 
+// The words of `migrate`, with its values tested.
+fn test_migrate(
+    alloc: Global,
+    old: &str,
+    new: &str,
+    limit: Option<&str>,
+) -> Result<Option<ProgramCommand>, Memory>
+    ensures { IfOk result (λ found. let w : MigrateWords = record {
+      old = old.now;
+      new = new.now;
+      limit = option_copied limit.entry;
+    } in
+        MatchOption found (IsMigrateInRange w → ⊥) (λ words. IsMigrateInRange w × Denotes words (migrate w))) }
+{
+    if old == new {
+        return Ok(None);
+    }
+    match read_chosen_limit(limit) {
+        Some(limit) => Ok(Some(ProgramCommand::Migrate {
+            old: Text::of(alloc, old)?,
+            new: Text::of(alloc, new)?,
+            limit,
+        })),
+        None => Ok(None),
+    }
+}
+
 // The words of a command, with its values tested.
 fn test_values(alloc: Global, shape: CommandLine<'_>) -> Result<Option<ProgramCommand>, Memory>
     ensures { IfOk result (λ found. MatchOption found (IsInRange (command_of shape.entry) → ⊥)
@@ -264,6 +314,7 @@ fn test_values(alloc: Global, shape: CommandLine<'_>) -> Result<Option<ProgramCo
             connections,
         } => test_serve(alloc, file, address, workers, connections),
         CommandLine::Load { file, seed, count } => test_load(alloc, file, seed, count),
+        CommandLine::Migrate { old, new, limit } => test_migrate(alloc, old, new, limit),
     }
 }
 

@@ -21,6 +21,8 @@ pub enum Ending {
     Served(u64),
     /// This number of statements is loaded, and the store lists so many.
     Loaded { statements: u32, listed: u64 },
+    /// The new store is made, with this number of entries.
+    Migrated(u64),
     /// The words are no command.
     Usage,
     /// The file is no store.
@@ -35,6 +37,8 @@ pub enum Ending {
     LobbyFault,
     /// Memory ran out.
     Memory,
+    /// The store has the old format, which only `migrate` reads.
+    OldFormat,
     /// The input breaks this rule.
     Refused(Rule),
     /// The statement of the input gives itself no id.
@@ -77,7 +81,11 @@ impl Ending {
         ensures { result ≡ ending_status self.now }
     {
         match self {
-            Ending::Founded | Ending::Kept(_) | Ending::Served(_) | Ending::Loaded { .. } => 0,
+            Ending::Founded
+            | Ending::Kept(_)
+            | Ending::Served(_)
+            | Ending::Loaded { .. }
+            | Ending::Migrated(_) => 0,
             Ending::Usage => 1,
             Ending::NotAStore => 2,
             Ending::Damaged { .. } => 3,
@@ -85,6 +93,7 @@ impl Ending {
             Ending::DiskFault => 5,
             Ending::Memory => 6,
             Ending::LobbyFault => 8,
+            Ending::OldFormat => 9,
             Ending::Refused(_) | Ending::NoId | Ending::TooLong | Ending::Conflict(_) => 10,
             Ending::InputFault => 11,
             Ending::Full { .. } => 12,
@@ -109,6 +118,7 @@ impl Ending {
             Ending::Kept(id) => word(&id.text()),
             Ending::Served(responses) => with_number(b"served ", *responses),
             Ending::Loaded { statements, listed } => loaded(*statements, *listed),
+            Ending::Migrated(entries) => with_number(b"migrated ", *entries),
             Ending::Usage => word(b"usage"),
             Ending::NotAStore => word(b"not a store"),
             Ending::Damaged { k } => with_number(b"damaged ", *k),
@@ -116,6 +126,7 @@ impl Ending {
             Ending::DiskFault => word(b"disk fault"),
             Ending::LobbyFault => word(b"lobby fault"),
             Ending::Memory => word(b"memory"),
+            Ending::OldFormat => word(b"old format"),
             Ending::Refused(rule) => refused(*rule),
             Ending::NoId => word(b"refused no id"),
             Ending::TooLong => word(b"refused too long"),

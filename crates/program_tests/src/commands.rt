@@ -2,8 +2,8 @@
 //
 //   FILE FAULT WORDS <INPUT => STATUS ENTRIES LINE
 //
-// FILE is what the file holds before: `none`, `header`, `letter` or `store`, or `last`, what the row before left. FAULT
-// is the call that fails, as `disk:0` or `input:0`, or `room:` and how many bytes the output takes, or `-`. INPUT is
+// FILE is what the file holds before: `none`, `header`, `letter`, `store`, or `old`, a store of the old format, or `last`,
+// what the row before left. FAULT is the call that fails, as `disk:0` or `input:0`, or `room:` and how many bytes the output takes, or `-`. INPUT is
 // `statement`, `other` or `unnamed`, or is given as it is. A second line stands after a comma. After a LINE that is cut
 // off stands `..`, and `changed` after the line if the file isn't as it was, with a status by which it has to be if no
 // batch of a load went well.
@@ -164,10 +164,10 @@ fn a_store_keeps_to_its_limit(rt: HostRuntime) -> Result<(), Fail> {
     check_rows(
         &rt,
         rt.alloc(),
-        r#"none - init s --admin adminadmin --limit 533 < => 0 1 founded
+        r#"none - init s --admin adminadmin --limit 549 < => 0 1 founded
 last - intake s <statement => 0 2 11111111-1111-4111-8111-111111111111
-none - init s --admin adminadmin --limit 532 < => 0 1 founded
-last - intake s <statement => 12 1 full 533 532
+none - init s --admin adminadmin --limit 548 < => 0 1 founded
+last - intake s <statement => 12 1 full 549 548
 none - init s --admin adminadmin --limit 00000000000000065536 < => 0 1 founded
 last - intake s <statement => 0 2 11111111-1111-4111-8111-111111111111
 none - init s --admin adminadmin --limit 00000000001073741824 < => 0 1 founded
@@ -186,6 +186,9 @@ fn other_files_are_refused(rt: HostRuntime) -> Result<(), Fail> {
         r#"header - intake s <statement => 3 0 damaged 0
 letter - intake s <statement => 2 0 not a store
 letter - init s --admin adminadmin <statement => 2 0 not a store
+old - intake s <statement => 9 0 old format
+old - load s 7 1 < => 9 0 old format
+old - init s --admin adminadmin <statement => 4 0 already a store
 store - init s --admin adminadmin <statement => 4 0 already a store
 "#,
     )
@@ -245,11 +248,11 @@ fn a_load_ends_where_there_is_no_room(rt: HostRuntime) -> Result<(), Fail> {
     check_rows(
         &rt,
         rt.alloc(),
-        r#"none - init s --admin adminadmin --limit 19282 < => 0 1 founded
-last - load s 7 150 < => 12 1 full 19283 19282
-none - init s --admin adminadmin --limit 28892 < => 0 1 founded
-last - load s 7 150 < => 12 2 full 28893 28892 changed
-none - init s --admin adminadmin --limit 28893 < => 0 1 founded
+        r#"none - init s --admin adminadmin --limit 19298 < => 0 1 founded
+last - load s 7 150 < => 12 1 full 19299 19298
+none - init s --admin adminadmin --limit 28916 < => 0 1 founded
+last - load s 7 150 < => 12 2 full 28917 28916 changed
+none - init s --admin adminadmin --limit 28917 < => 0 1 founded
 last - load s 7 150 < => 0 3 loaded 150, listed 147
 "#,
     )

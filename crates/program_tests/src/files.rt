@@ -1,5 +1,5 @@
-//! `init`, `intake` and `load` over real files.
-use crate::runs::{STATEMENT, words_of, wrong_at};
+//! `init`, `intake`, `load` and `migrate` over real files.
+use crate::runs::{STATEMENT, file_of, words_of, wrong_at};
 use lrs_app::run;
 use lrs_edge::{FileShelf, StdSource, TcpLobby};
 use lrs_in_memory_doors::MemSink;
@@ -18,7 +18,7 @@ fn run_really<R: Threads + Wait + Sync>(
     input: &str,
     out: &mut MemSink,
 ) -> Result<(), Fail> {
-    let mut shelf = FileShelf::new(rt, 1)?;
+    let mut shelf = FileShelf::new(rt, 2)?;
     let mut lobby = TcpLobby::new(rt);
     let mut input = StdSource::new(input.as_bytes());
     let ended = run(
@@ -81,10 +81,10 @@ fn path_of(rt: HostRuntime, test: &str) -> Result<String, Fail> {
     Ok(String::from_str(rt.alloc(), path.as_path().as_str())?)
 }
 
-// The second frame's gate is byte 208, its last byte is 531.
+// The second frame's gate is byte 216, its last byte is 547.
 fn line_at(length: usize) -> &'static str {
     match length {
-        210..532 => "damaged 1\n",
+        218..548 => "damaged 1\n",
         _ => "11111111-1111-4111-8111-111111111111\n",
     }
 }
@@ -109,7 +109,7 @@ fn check_cuts<R: Threads + Wait + Sync>(
     file: &str,
     whole: &[u8],
 ) -> Result<(), Fail> {
-    for length in 208..534 {
+    for length in 216..550 {
         if !is_told(threads, rt, file, whole, length)? {
             return wrong_at(rt.alloc(), length as u64);
         }
@@ -126,7 +126,7 @@ fn check_store<R: Threads + Wait + Sync>(
     founded(threads, rt, file)?;
     taken_in(threads, rt, file, STATEMENT)?;
     let whole = fs::read(&rt, file)?;
-    if whole.len() != 533 {
+    if whole.len() != 549 {
         return Err(Fail::from("another length"));
     }
     check_cuts(threads, rt, file, whole.as_slice())
@@ -247,5 +247,52 @@ fn twenty_thousand_statements_are_loaded_and_listed(rt: HostRuntime) -> Result<(
     let path = path_of(rt, "load")?;
     check_load(&rt, rt, path.as_str())?;
     fs::remove_file(&rt, path.as_str())?;
+    Ok(())
+}
+
+// Fails if `migrate` prints something else than this line over these files, or leaves another old one.
+fn check_line<R: Threads + Wait + Sync>(
+    threads: &R,
+    rt: HostRuntime,
+    old: &str,
+    new: &str,
+    expected: &str,
+) -> Result<(), Fail> {
+    let line = format!(in rt.alloc(); "migrate {old} {new}")?;
+    let line = printed(threads, rt, line.as_str(), "")?;
+    let is_kept = fs::read(&rt, old)?.as_slice() == file_of("old", &[]);
+    if is_kept && line.as_slice() == expected.as_bytes() {
+        Ok(())
+    } else {
+        Err(Fail::from(expected))
+    }
+}
+
+// An old store is moved into a new file once. The old file under another name is still the old file, which is in use.
+fn check_move<R: Threads + Wait + Sync>(
+    threads: &R,
+    rt: HostRuntime,
+    old: &str,
+    new: &str,
+) -> Result<(), Fail> {
+    fs::write(&rt, old, file_of("old", &[]))?;
+    let same = old.replace(rt.alloc(), "/kilnlime-", "/./kilnlime-")?;
+    check_line(threads, rt, old, same.as_str(), "disk fault\n")?;
+    check_line(threads, rt, old, new, "migrated 1\n")?;
+    check_line(threads, rt, old, new, "already a store\n")?;
+    if fs::read(&rt, new)?.as_slice() == file_of("store", &[]) {
+        Ok(())
+    } else {
+        Err(Fail::from("another file"))
+    }
+}
+
+#[test]
+fn an_old_store_is_moved_into_another_file(rt: HostRuntime) -> Result<(), Fail> {
+    let old = path_of(rt, "old")?;
+    let new = path_of(rt, "new")?;
+    check_move(&rt, rt, old.as_str(), new.as_str())?;
+    fs::remove_file(&rt, old.as_str())?;
+    fs::remove_file(&rt, new.as_str())?;
     Ok(())
 }

@@ -9,6 +9,8 @@ mod doors;
 #[cfg(test)]
 mod files;
 #[cfg(test)]
+mod migrating;
+#[cfg(test)]
 mod repeats;
 #[cfg(test)]
 mod runs;

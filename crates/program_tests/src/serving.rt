@@ -65,11 +65,11 @@ fn a_server_answers_to_the_byte(rt: HostRuntime) -> Result<(), Fail> {
 
 // A store's limit, the length of its file after a PUT, and what that is answered.
 const LIMITS: [(&str, usize, &str); 2] = [
-    ("542", 542, NO_CONTENT),
+    ("558", 558, NO_CONTENT),
     (
-        "541",
-        209,
-        "HTTP/1.1 507 Insufficient Storage\r\nContent-Type: application/json\r\nContent-Length: 38\r\nX-Experience-API-Version: 1.0.3\r\n\r\n{\"error\":\"507\",\"need\":542,\"limit\":541}",
+        "557",
+        217,
+        "HTTP/1.1 507 Insufficient Storage\r\nContent-Type: application/json\r\nContent-Length: 38\r\nX-Experience-API-Version: 1.0.3\r\n\r\n{\"error\":\"507\",\"need\":558,\"limit\":557}",
     ),
 ];
 
@@ -303,10 +303,12 @@ fn a_batch_that_comes_again_makes_no_entry(rt: HostRuntime) -> Result<(), Fail> 
 
 const ABOUT: &str = "GET /xapi/about HTTP/1.1\r\n\r\n";
 
-// The file, the call of `next` that fails, the status and the line. The first two are no stores of a history.
-const ENDS: [(&str, u64, u8, &str); 5] = [
+// The file, the call of `next` that fails, the status and the line. The first three are no stores that
+// are opened.
+const ENDS: [(&str, u64, u8, &str); 6] = [
     ("none", 9, 2, "not a store\n"),
     ("header", 9, 3, "damaged 0\n"),
+    ("old", 9, 9, "old format\n"),
     ("store", 0, 8, "lobby fault\n"),
     ("store", 1, 8, "lobby fault\n"),
     ("store", 2, 0, "served 2\n"),

@@ -25,7 +25,7 @@ const FOREIGN: &[u8] = b"a letter";
 const FILES: [&[u8]; 5] = [
     b"",
     b"\0",
-    b"\0LRSJRNL\x01\0\0\0\0\0\x01\0\0",
+    b"\0LRSJRNL\x02\0\0\0\0\0\x01\0\0",
     b"\0LRSJRNL\x01\xff\xff\xff\xff\xff\xff\xff\xff\x01\0\0\x01\0\0\0\xba{\"caller\":\"*\"",
     FOREIGN,
 ];
@@ -159,7 +159,7 @@ fn gate_behind(journal: &[u8], frames: u64) -> Option<usize> {
             return None;
         };
         let length = u32::from_be_bytes([*a, *b, *c, *d]);
-        offset = offset.saturating_add(5).saturating_add(length as usize);
+        offset = offset.saturating_add(13).saturating_add(length as usize);
     }
     Some(offset)
 }

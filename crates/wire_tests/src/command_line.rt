@@ -4,8 +4,8 @@ use lrs_json::Text;
 use std::alloc::Global;
 use std::test::Fail;
 
-// Lines of words, and after `=>` the command that each is with its values, or `usage`. `''` is the empty word. From the
-// ninth to the sixteenth, and where a `--` or a `=` stands, they aren't plain.
+// Lines of words, and after `=>` the command that each is with its values, or `usage`. `''` is the empty word, `own` the
+// old store's limit. Where a `=`, a `--`, a `-` alone or a `''` stands, they aren't plain.
 const COMMANDS: &str = r#"intake s => intake s
 init s --admin adminadmin => init s adminadmin http://127.0.0.1:8080/ 268435456
 init --admin adminadmin s => init s adminadmin http://127.0.0.1:8080/ 268435456
@@ -47,6 +47,30 @@ load s 7 100001 => usage
 load s 7 000000000000000000100 => usage
 load s 7 => usage
 load s 7 100 1 => usage
+migrate s t => migrate s t own
+migrate s t --limit 512 => migrate s t 512
+migrate --limit 00000000001073741824 s t => migrate s t 1073741824
+migrate s --limit 600 t => migrate s t 600
+migrate s ./s => migrate s ./s own
+migrate --limit=600 s t => migrate s t 600
+migrate -- -s -t => migrate -s -t own
+migrate '' - => migrate '' - own
+migrate s t --limit 511 => usage
+migrate s t --limit=511 => usage
+migrate s t --limit 1073741825 => usage
+migrate s t --limit 000000000001073741824 => usage
+migrate s t --limit -1 => usage
+migrate s t --limit '' => usage
+migrate s t --limit => usage
+migrate s t --limit 512 --limit 512 => usage
+migrate s t --admin adminadmin => usage
+migrate s s => usage
+migrate s s --limit 512 => usage
+migrate -- s s => usage
+migrate '' '' => usage
+migrate s => usage
+migrate => usage
+migrate s t u => usage
 "#;
 
 // The words of a line.
@@ -96,6 +120,13 @@ fn told(alloc: Global, read: &Option<ProgramCommand>) -> Result<String, Fail> {
         Some(ProgramCommand::Load { file, seed, count }) => {
             let file = file.as_str();
             format!(in alloc; "load {file} {seed} {count}")?
+        }
+        Some(ProgramCommand::Migrate { old, new, limit }) => {
+            let (old, new) = (word(old.as_str()), word(new.as_str()));
+            match limit {
+                Some(limit) => format!(in alloc; "migrate {old} {new} {limit}")?,
+                None => format!(in alloc; "migrate {old} {new} own")?,
+            }
         }
     })
 }

@@ -4,7 +4,7 @@ ghost use Rattle.std.specs.Prelude.{◌≡◌, ◌≤◌, ◌∷◌, [], true, f
 ghost use Rattle.std.specs.Option.{option_copied};
 ghost use Rattle.lrs_json.specs.Names.{is_among};
 ghost use Rattle.lrs_command_line.specs.CommandLine.{is_no_option, options_of_command, options_of};
-ghost use Rattle.lrs_command_line.specs.Shapes.{alone, command_of, init_with, is_option, is_plain, load_said, said_by, serve_with, value_behind};
+ghost use Rattle.lrs_command_line.specs.Shapes.{alone, command_of, init_with, is_option, is_plain, load_said, migrate_with, said_by, serve_with, value_behind};
 
 use crate::words::CommandLine;
 use lrs_json::Text;
@@ -26,6 +26,7 @@ fn has_option(command: &str, word: &str) -> bool
     match command {
         "init" => word == "--admin" || word == "--base" || word == "--limit",
         "serve" => word == "--workers" || word == "--connections",
+        "migrate" => word == "--limit",
         _ => false,
     }
 }
@@ -154,6 +155,17 @@ fn plain_serve<'a>(file: &'a str, address: &'a str, words: &'a [Text]) -> Option
     })
 }
 
+fn plain_migrate<'a>(old: &'a str, new: &'a str, words: &'a [Text]) -> CommandLine<'a>
+    ensures { Some (command_of result) ≡ migrate_with (Some old.now) (Some new.now)
+        (value_behind (codes "--limit") words.now) }
+{
+    CommandLine::Migrate {
+        old,
+        new,
+        limit: value_behind("--limit", words),
+    }
+}
+
 // A plain line with one word after the command's name.
 fn plain_with_file<'a>(command: &str, file: &'a str, words: &'a [Text]) -> Option<CommandLine<'a>>
     ensures { option_map command_of result ≡ said_by (command.now ∷ file.now ∷ [])
@@ -167,17 +179,18 @@ fn plain_with_file<'a>(command: &str, file: &'a str, words: &'a [Text]) -> Optio
 }
 
 // A plain line with two words after the command's name.
-fn plain_with_address<'a>(
+fn plain_with_second<'a>(
     command: &str,
     file: &'a str,
-    address: &'a str,
+    second: &'a str,
     words: &'a [Text],
 ) -> Option<CommandLine<'a>>
-    ensures { option_map command_of result ≡ said_by (command.now ∷ file.now ∷ address.now ∷ [])
+    ensures { option_map command_of result ≡ said_by (command.now ∷ file.now ∷ second.now ∷ [])
         (λ name. value_behind name words.now) }
 {
     match command {
-        "serve" => plain_serve(file, address, words),
+        "serve" => plain_serve(file, second, words),
+        "migrate" => Some(plain_migrate(file, second, words)),
         _ => None,
     }
 }
@@ -207,7 +220,7 @@ pub(super) fn read_plain(words: &[Text]) -> Option<CommandLine<'_>>
         return plain_with_file(command.as_str(), file.as_str(), words);
     };
     let Some((third, rest)) = next_alone(rest) else {
-        return plain_with_address(command.as_str(), file.as_str(), second.as_str(), words);
+        return plain_with_second(command.as_str(), file.as_str(), second.as_str(), words);
     };
     match next_alone(rest) {
         None => plain_with_seed(

@@ -3,8 +3,8 @@
 ghost use Rattle.std.specs.Prelude.{◌≡◌, true, false, map, IfOk, MatchOption, option_map, option_and_then};
 ghost use Rattle.std.specs.Option.{option_copied};
 ghost use Rattle.clap.specs.Words.{App, app_of, first_of, found_of, rows_of, rule_of, subcommand_of, subcommand_rows_of, with_rule, with_subcommand};
-ghost use Rattle.lrs_command_line.specs.CommandLine.{required, needed, optional, init_app, intake_app, load_app, serve_app, program, program_begun, whole_line};
-ghost use Rattle.lrs_command_line.specs.Shapes.{IsOf, IsReadAs, command_in, command_of, init_in, intake_in, is_faulty, load_in, serve_in, taken};
+ghost use Rattle.lrs_command_line.specs.CommandLine.{required, needed, optional, init_app, intake_app, load_app, migrate_app, serve_app, program, program_begun, whole_line};
+ghost use Rattle.lrs_command_line.specs.Shapes.{IsOf, IsReadAs, command_in, command_of, init_in, intake_in, is_faulty, load_in, migrate_in, serve_in, taken};
 
 use crate::words::{CommandLine, ProgramCommand, test_named};
 use clap::error::ErrorKind;
@@ -86,6 +86,15 @@ fn load_command<'a>(alloc: Global) -> Result<Command<'a>, Memory>
     with_argument(command, required(alloc, "count"))
 }
 
+fn migrate_command<'a>(alloc: Global) -> Result<Command<'a>, Memory>
+    ensures { IfOk result (IsOf migrate_app) }
+{
+    let command = Ok(Command::new(alloc, "migrate"));
+    let command = with_argument(command, required(alloc, "old"));
+    let command = with_argument(command, required(alloc, "new"));
+    with_argument(command, optional(alloc, "limit"))
+}
+
 fn add_command<'a>(
     program: Command<'a>,
     made: Result<Command<'a>, Memory>,
@@ -133,7 +142,8 @@ fn program<'a>(alloc: Global) -> Result<Command<'a>, Memory>
     ensures { IfOk result (λ c. app_of c ≡ program) }
 {
     let program = with_command(program_begun(alloc), serve_command(alloc));
-    with_command(program, load_command(alloc))
+    let program = with_command(program, load_command(alloc));
+    with_command(program, migrate_command(alloc))
 }
 
 // A value of what was given.
@@ -183,6 +193,16 @@ fn taken_load<'a>(given: &ArgMatches<'a>) -> Option<CommandLine<'a>>
     })
 }
 
+fn taken_migrate<'a>(given: &ArgMatches<'a>) -> Option<CommandLine<'a>>
+    ensures { option_map command_of result ≡ migrate_in (rows_of (found_of given.now)) }
+{
+    Some(CommandLine::Migrate {
+        old: text_of(given, "old")?,
+        new: text_of(given, "new")?,
+        limit: text_of(given, "limit"),
+    })
+}
+
 // The command of a name, with what was given to it.
 fn taken_as<'a>(name: &str, given: &ArgMatches<'a>) -> Option<CommandLine<'a>>
     ensures { option_map command_of result ≡ command_in (name.now, rows_of (found_of given.now)) }
@@ -192,6 +212,7 @@ fn taken_as<'a>(name: &str, given: &ArgMatches<'a>) -> Option<CommandLine<'a>>
         "intake" => taken_intake(given),
         "serve" => taken_serve(given),
         "load" => taken_load(given),
+        "migrate" => taken_migrate(given),
         _ => None,
     }
 }

@@ -1,5 +1,6 @@
 //! Runs over the outside in memory.
 ghost use Rattle.std.specs.Prelude.{All, IfOk};
+ghost use Rattle.lrs_in_memory.specs.Named.{IsSettled};
 ghost use Rattle.lrs_in_memory_doors.specs.MemDoor.{IsUntouched};
 ghost use Rattle.lrs_in_memory_doors.specs.MemLink.{IsUnusedLink};
 
@@ -17,19 +18,21 @@ const CLOCK: u64 = 1_700_000_000_000;
 /// What is around a run.
 #[derive(Clone, Copy)]
 pub struct Around<'a> {
-    /// What the file `s` holds.
+    /// What the file `s` holds, and the file `new`.
     pub stored: &'a [u8],
+    pub new: &'a [u8],
     pub input: &'a [u8],
     /// What the connections of the first door bring, and where reads of them end.
     pub streams: &'a [&'a str],
     pub cuts: &'a [usize],
     /// What the one connection of each further door brings.
     pub others: &'a [String],
-    /// How many calls the disk takes. All later ones fail.
+    /// How many calls a disk takes. All later ones fail.
     pub disk_calls: u64,
-    /// The numbers of the calls that fail: of the disk, of the input, and of the `next` of the first door and of each
-    /// further one.
+    /// The numbers of the calls that fail: of the disk of `s`, of that of `new`, of the input, and of the `next` of the
+    /// first door and of each further one.
     pub disk_fails: &'a [u64],
+    pub new_fails: &'a [u64],
     pub input_fails: &'a [u64],
     pub door_fails: &'a [u64],
     pub other_fails: &'a [u64],
@@ -42,12 +45,14 @@ impl<'a> Around<'a> {
     pub fn calm(stored: &'a [u8], input: &'a str, streams: &'a [&'a str]) -> Around<'a> {
         Around {
             stored,
+            new: &[],
             input: input.as_bytes(),
             streams,
             cuts: &[],
             others: &[],
             disk_calls: 64,
             disk_fails: &[],
+            new_fails: &[],
             input_fails: &[],
             door_fails: &[],
             other_fails: &[],
@@ -63,8 +68,9 @@ pub struct Ran {
     pub length: u64,
     pub responses: u64,
     pub printed: Vec<u8>,
-    /// The disk of the file, where it was taken.
+    /// The disk of the file, where it was taken, and that of the old store.
     pub disks: Vec<MemDisk>,
+    pub olds: Vec<MemDisk>,
     /// The conversations of each worker.
     pub talks: Items<Items<Talk>>,
     /// What went out over the first connection of each door where one was served.
@@ -155,12 +161,26 @@ pub fn joined(alloc: Global, parts: &[&str]) -> Result<String, Fail> {
     Ok(text)
 }
 
+// A disk that holds this, and on which these calls fail.
+fn disk(alloc: Global, around: &Around<'_>, stored: &[u8], failing: &[u64]) -> Result<MemDisk, Fail>
+    ensures { IfOk result IsSettled }
+{
+    let stored = stored.to_vec(alloc)?;
+    Ok(MemDisk::new(
+        alloc,
+        stored,
+        failing.to_vec(alloc)?,
+        around.disk_calls,
+        1 << 20,
+    )?)
+}
+
 fn shelf(alloc: Global, around: &Around<'_>) -> Result<MemShelf, Fail> {
     let name = String::from_str(alloc, "s")?;
-    let stored = around.stored.to_vec(alloc)?;
-    let failing = around.disk_fails.to_vec(alloc)?;
-    let disk = MemDisk::new(alloc, stored, failing, around.disk_calls, 1 << 20)?;
-    let disks = vec![in alloc; (name, disk)]?;
+    let other = String::from_str(alloc, "new")?;
+    let stored = disk(alloc, around, around.stored, around.disk_fails)?;
+    let new = disk(alloc, around, around.new, around.new_fails)?;
+    let disks = vec![in alloc; (name, stored), (other, new)]?;
     Ok(MemShelf::new(disks, Vec::new(alloc), Vec::new(alloc)))
 }
 
@@ -240,9 +260,11 @@ fn run_in<R: Threads + Wait + Sync>(
     outside: &mut World,
 ) -> Result<Ran, Fail> {
     let mut disks = Vec::with_capacity(alloc, 1)?;
+    let mut olds = Vec::with_capacity(alloc, 1)?;
     let Ended {
         status,
         disk,
+        old,
         report,
     } = run(
         rt,
@@ -257,6 +279,9 @@ fn run_in<R: Threads + Wait + Sync>(
     if let Some(disk) = disk {
         disks.push_reserved(disk);
     }
+    if let Some(old) = old {
+        olds.push_reserved(old);
+    }
     let Report {
         talks,
         responses,
@@ -270,6 +295,7 @@ fn run_in<R: Threads + Wait + Sync>(
         responses,
         printed,
         disks,
+        olds,
         talks,
         sent,
     })

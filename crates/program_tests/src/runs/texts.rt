@@ -34,17 +34,21 @@ pub const SHOWN: &str =
 pub const DISK: &str =
     "HTTP/1.1 503 Service Unavailable\r\nContent-Type: application/json\r\nContent-Length: 16\r\nX-Experience-API-Version: 1.0.3\r\n\r\n{\"error\":\"disk\"}";
 
-// The store of one founding entry: the header, the frame's gate and length, the entry, and the end gate.
+// The store of one founding entry: the header, the frame's gate, length and number, the entry, and the end gate.
 const STORED: &[u8] =
-    b"\x01LRSJRNL\x01\0\0\0\0\0\x01\0\0\x01\0\0\0\xba{\"caller\":\"*\",\"moment\":1700000000000,\"draw\":\"0000000000000000000000000000000000000000000000000000000000000000\",\"command\":{\"found\":{\"admin\":\"adminadmin\",\"base\":\"http://127.0.0.1:8080/\"}}}\0";
+    b"\x01LRSJRNL\x02\0\0\0\0\0\x01\0\0\x01\0\0\0\xba\0\0\0\0\0\0\0\0{\"caller\":\"*\",\"moment\":1700000000000,\"draw\":\"0000000000000000000000000000000000000000000000000000000000000000\",\"command\":{\"found\":{\"admin\":\"adminadmin\",\"base\":\"http://127.0.0.1:8080/\"}}}\0";
 
 /// The bytes of a new store. A function that names the bytes themselves takes long to prove.
 pub fn stored() -> &'static [u8] {
     STORED
 }
 
+// The same in the old format, where a frame has no number.
+const OLD: &[u8] =
+    b"\x01LRSJRNL\x01\0\0\0\0\0\x01\0\0\x01\0\0\0\xba{\"caller\":\"*\",\"moment\":1700000000000,\"draw\":\"0000000000000000000000000000000000000000000000000000000000000000\",\"command\":{\"found\":{\"admin\":\"adminadmin\",\"base\":\"http://127.0.0.1:8080/\"}}}\0";
+
 // The header alone is no store of a history.
-const HEADER: &[u8] = b"\x01LRSJRNL\x01\0\0\0\0\0\x01\0\0";
+const HEADER: &[u8] = b"\x01LRSJRNL\x02\0\0\0\0\0\x01\0\0";
 
 /// What the file of this name holds.
 pub fn file_of<'a>(name: &str, last: &'a [u8]) -> &'a [u8] {
@@ -53,6 +57,7 @@ pub fn file_of<'a>(name: &str, last: &'a [u8]) -> &'a [u8] {
         "header" => HEADER,
         "letter" => b"a letter",
         "store" => stored(),
+        "old" => OLD,
         _ => last,
     }
 }

@@ -1,5 +1,5 @@
 use Rattle.std.proofs.Common.{refl}
-use Rattle.lrs_app.proofs.Running.{does_init, does_intake, does_load, does_serve, meant_init, meant_workers}
+use Rattle.lrs_app.proofs.Running.{does_init, does_intake, does_load, does_migrate, does_serve, meant_init, meant_migrate, meant_workers}
 use Rattle.lrs_app.proofs.program.run_command.Goals as goal
 
 pub returns-in-Init : goal.returns-in-Init
@@ -22,6 +22,11 @@ returns-in-Load g c = λ line means.
     does_load g.S.Disk.Disk line c.args.command.now c.in-Load.file c.in-Load.number c.in-Load.count c.args.seed _ _ c.run_load.result
     c.in-Load.is means (record { left = refl; faults = refl }) c.run_load.ensures
 
+pub returns-in-Migrate : goal.returns-in-Migrate
+returns-in-Migrate g c = λ line means.
+    does_migrate g.S.Disk.Disk line c.args.command.now c.in-Migrate.old c.in-Migrate.new c.in-Migrate.limit c.args.seed _ _ c.run_migrate.result
+    c.in-Migrate.is means (record { left = refl; faults = refl }) c.run_migrate.ensures
+
 pub run_init-requires-clause-limit : goal.run_init-requires-clause-limit
 run_init-requires-clause-limit g c κs within = (meant_init c.args.command.now c.in-Init.file c.in-Init.admin c.in-Init.base c.in-Init.limit c.in-Init.is c.requires).0
 
@@ -36,3 +41,9 @@ pub run_serve-requires : goal.run_serve-requires
 run_serve-requires g c =
     let workers = meant_workers c.args.command.now c.in-Serve.file c.in-Serve.address c.in-Serve.workers c.in-Serve.connections c.in-Serve.is c.requires in
     (c.type_bounds.send-S-Disk, (c.type_bounds.send-B-Door, (c.type_bounds.send-B-Door-Link, (c.type_bounds.sync-R, workers))))
+
+pub run_migrate-requires-clause-differ : goal.run_migrate-requires-clause-differ
+run_migrate-requires-clause-differ g c κs within = (meant_migrate c.args.command.now c.in-Migrate.old c.in-Migrate.new c.in-Migrate.limit c.in-Migrate.is c.requires).0
+
+pub run_migrate-requires-clause-limit : goal.run_migrate-requires-clause-limit
+run_migrate-requires-clause-limit g c κs within = (meant_migrate c.args.command.now c.in-Migrate.old c.in-Migrate.new c.in-Migrate.limit c.in-Migrate.is c.requires).1

@@ -6,7 +6,7 @@ returns g c =
     let taken = c.take-taken in
     let o = c.end_run in
     init_runs g.S.Disk.Disk g.S.Shelf g.B.Lobby g.I.Source g.O.Sink c.args.shelf.now taken.new.self c.args.lobby.now c.now-clock.new.self c.args.input.now c.args.input.now c.args.out.now o.new.out
-    c.args.file.now c.init.result o.result o.ensures.disk o.ensures.report
+    c.args.file.now c.init.result o.result o.ensures.disk o.ensures.old o.ensures.report
     (takes_file (g.S.Shelf.taken c.args.shelf.now) (g.S.Shelf.taken taken.new.self) c.as_str.ensures.lent taken.ensures.taken) o.ensures.printed
     taken.result c.args.admin.now c.args.base.now c.args.limit c.now-clock.result c.now-clock.ensures.read
     (same_doors c.now-clock.ensures.asked_kept c.now-clock.ensures.returned_kept c.now-clock.ensures.same)
