@@ -2,8 +2,9 @@
 """Makes a store file of N statements by the formats of docs/FORMATS.md, without the program: a second hand that writes
 the journal, for measuring and for holding the program against it.
 
-    make_store.py FILE N [--limit BYTES] [--table ROWS] [--documents M] [--refer chain|circle]
+    make_store.py FILE N [--format 1|2] [--limit BYTES] [--table ROWS] [--documents M] [--refer chain|circle]
 
+The format is 2 if it isn't said; 1 is that of version 0.1.0, for migrations.
 ROWS is a second file: the same statements as rows of a table, each a place, a verb, the name of its agent, a registration
 and the text that a page shows of it, parted by tabs.
 Statement i has the id 00000000-0000-4000-8000-<i in twelve hexadecimal digits>. M state documents of 1,024 bytes come
@@ -73,29 +74,42 @@ def document(i):
     }
 
 
-def frame(payload):
-    return b"\x01" + struct.pack(">I", len(payload)) + payload
+class Store:
+    """A store that is written frame by frame."""
+
+    def __init__(self, out, version, limit):
+        self.out, self.version, self.number = out, version, 0
+        out.write(b"\x01LRSJRNL" + struct.pack(">BQ", version, limit))
+
+    def add(self, payload):
+        number = struct.pack(">Q", self.number) if self.version == 2 else b""
+        self.out.write(b"\x01" + struct.pack(">I", len(payload)) + number + payload)
+        self.number += 1
+
+    def end(self):
+        self.out.write(b"\x00")
 
 
 def main():
     words = argparse.ArgumentParser()
     words.add_argument("file")
     words.add_argument("number", type=int)
+    words.add_argument("--format", type=int, choices=[1, 2], default=2)
     words.add_argument("--limit", type=int, default=268_435_456)
     words.add_argument("--table")
     words.add_argument("--documents", type=int, default=0)
     words.add_argument("--refer", choices=["chain", "circle"])
     words = words.parse_args()
     with open(words.file, "wb") as out:
-        out.write(b"\x01LRSJRNL\x01" + struct.pack(">Q", words.limit))
-        out.write(frame(entry(MOMENT, "0" * 64, {"found": {"admin": "adminadmin", "base": "http://127.0.0.1:8080/"}})))
+        store = Store(out, words.format, words.limit)
+        store.add(entry(MOMENT, "0" * 64, {"found": {"admin": "adminadmin", "base": "http://127.0.0.1:8080/"}}))
         for i in range(words.number):
             made = statement(i) if words.refer is None else referring(i, words.number, words.refer)
             put = {"put": {"id": f"00000000-0000-4000-8000-{i:012x}", "statement": made}}
-            out.write(frame(entry(MOMENT + i, f"{i:032x}{i:032x}", put)))
+            store.add(entry(MOMENT + i, f"{i:032x}{i:032x}", put))
         for i in range(words.documents):
-            out.write(frame(entry(MOMENT + words.number + i, f"{i:032x}{i:032x}", {"state": document(i)})))
-        out.write(b"\x00")
+            store.add(entry(MOMENT + words.number + i, f"{i:032x}{i:032x}", {"state": document(i)}))
+        store.end()
     if words.table is not None:
         with open(words.table, "wb") as out:
             for i in range(words.number):

@@ -6,8 +6,9 @@ opening a store of 100,000 statements takes, and the memory that it then takes.
   bench/versions.py NAME=PROGRAM .. [--folder FOLDER] [--rounds R]
 
 PROGRAM is a built program (crates/kilnlime/out/kilnlime). FOLDER is on the disk to be measured (default: that of temporary
-files). R is 5 if it isn't said. Prints the median of each figure, and its least and its greatest. Takes half a minute for
-each program and round; needs cc. What the environment says to the C library holds for all of them."""
+files). R is 5 if it isn't said. Each program opens a store of the format that it writes. Prints the median of each
+figure, and its least and its greatest. Takes half a minute for each program and round; needs cc. What the environment
+says to the C library holds for all of them."""
 import argparse
 import os
 import pathlib
@@ -20,10 +21,20 @@ BATCHES = 400
 OPENED = 100_000
 
 
-def opened(program):
-    """How long the processor works to open the store of `OPENED` statements, in its own lines and the system's, and the
-    memory that the server then takes, in MB."""
-    with workers.serving(program, "opened", 1) as server:
+def stored(program):
+    """A store of `OPENED` statements in the format that the program writes, made when it is first asked for."""
+    version = workers.format_of(workers.new_store(program))
+    store = f"opened-{version}"
+    if not os.path.exists(store):
+        words = ["--format", version, "--limit", 1_073_741_824]
+        workers.run(workers.HERE / "make_store.py", store, OPENED, *words)
+    return store
+
+
+def opened(program, store):
+    """How long the processor works to open the store, in its own lines and the system's, and the memory that the server
+    then takes, in MB."""
+    with workers.serving(program, store, 1) as server:
         status = pathlib.Path(f"/proc/{server.pid}/status").read_text()
         resident = next(line for line in status.splitlines() if line.startswith("VmRSS"))
         return sum(workers.processor_time(server.pid)), int(resident.split()[1]) / 1024
@@ -40,10 +51,11 @@ def one_round(program):
         yield "a statement of a batch, own code, in microseconds", own / BATCHES * 1e4
         yield "the same, in the system", system / BATCHES * 1e4
         yield "GETs by id a second", workers.asked(server.port, "get", workers.HELD, workers.GETS, 1)
-    seconds, resident = opened(program)
+    store = stored(program)
+    seconds, resident = opened(program, store)
     yield "opened, seconds of the processor", seconds
     yield "opened, MB", resident
-    with workers.serving(program, "opened", 1) as server:
+    with workers.serving(program, store, 1) as server:
         path = f"/xapi/statements?verb={workers.VERB}&limit=100"
         yield "pages of 100 by a verb, a second", workers.asked(server.port, "path", path, workers.PAGES, 1)
 
@@ -64,7 +76,6 @@ def main():
         os.chdir(name)
         for source in ("requests", "six_calls"):
             workers.run("cc", "-O2", "-D_GNU_SOURCE", "-pthread", "-o", source, workers.HERE / f"{source}.c")
-        workers.run(workers.HERE / "make_store.py", "opened", OPENED, "--limit", 1_073_741_824)
         for turn in range(given.rounds):
             for which in range(len(programs)):
                 version, program = programs[(turn + which) % len(programs)]

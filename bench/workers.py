@@ -34,6 +34,8 @@ GETS = 40_000
 PAGES = 4000
 HELD = 10_000
 HELD_OF_PAGES = 100_000
+# the bytes of a frame before its payload, by the version of the format
+FRAME_HEADS = {1: 5, 2: 13}
 VERB = "http://v.invalid/3"
 NO_VERB = "http://v.invalid/none"
 SECONDS = 10
@@ -86,6 +88,12 @@ def new_store(program):
     return "store"
 
 
+def format_of(store):
+    """The version of a store's format."""
+    with open(store, "rb") as file:
+        return file.read(9)[8]
+
+
 def asked(port, mode, path, number, clients):
     """So many requests by so many clients at once: how many are answered a second."""
     return int(run("./requests", port, mode, path, number // clients, TOKEN, 1, clients))
@@ -101,7 +109,7 @@ def puts(program, workers, clients):
     before = os.path.getsize(store)
     with serving(program, store, workers) as server:
         rate = asked(server.port, "put", 0, PUTS, clients)
-    return rate, (os.path.getsize(store) - before) // PUTS - 5
+    return rate, (os.path.getsize(store) - before) // PUTS - FRAME_HEADS[format_of(store)]
 
 
 def six_calls(size):
@@ -288,9 +296,10 @@ def measure_one(programs):
     for name, program in programs:
         rate = best(lambda: puts(program, 1, 1)[0])
         store = with_statements(program, HELD)
+        version = format_of(store)
         with serving(program, store, 1) as server:
             gets = best(lambda: asked(server.port, "get", HELD, GETS, 1))
-        run(HERE / "make_store.py", "store", HELD_OF_PAGES, "--limit", 1_073_741_824)
+        run(HERE / "make_store.py", "store", HELD_OF_PAGES, "--format", version, "--limit", 1_073_741_824)
         with serving(program, "store", 1) as server:
             pages = best(lambda: asked(server.port, "path", f"/xapi/statements?verb={VERB}&limit=100", PAGES, 1))
         print(f"  {name}: {rate:,} PUTs, {gets:,} GETs by id, {pages:,} pages of 100 by a verb", flush=True)

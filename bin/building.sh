@@ -23,8 +23,8 @@ version() {
   echo "kilnlime $(sed -n 's/^## \([0-9][^ ,]*\).*/\1/p' "$here/CHANGELOG.md" | head -n 1) ($(sed -n 's/.*`\(rattle-kit[^`]*\)`.*/\1/p' "$here/README.md" | head -n 1))"
 }
 
-# answer_without_program WORDS..: ends here if these words ask for the manual or the version, or if `init` would
-# overwrite a file that is no store
+# answer_without_program WORDS..: ends here if these words ask for the manual or the version, or if `init` or `migrate`
+# would overwrite a file that is no store
 answer_without_program() {
   case "${1-}" in
     --help | -h | help)
