@@ -1,4 +1,5 @@
 pub mod Ahead
+pub mod Behind
 pub mod FileDisk
 pub mod Silent
 pub mod TcpDoor

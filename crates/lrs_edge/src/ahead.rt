@@ -1,6 +1,7 @@
 // Small reads that are answered from large ones.
-ghost use Rattle.std.specs.Prelude.{◌≡◌, ◌≤◌, ◌+◌, ◌-◌, [], List, ℕ, Option, length, min, take, drop, IfOk, IfSome, OnOk};
+ghost use Rattle.std.specs.Prelude.{◌≡◌, ◌≤◌, ◌+◌, ◌-◌, [], List, ℕ, Option, length, min, take, drop, IfOk, IfSome, OnOk, OnErr, option_map};
 ghost use Rattle.std.specs.Option.{ForSome};
+ghost use Rattle.lrs_disk.specs.Disk.{written, Torn, Cut, BothTold};
 ghost use Rattle.lrs_edge.specs.Ahead.{IsPiece};
 
 use lrs_disk::copied;
@@ -23,12 +24,18 @@ pub(crate) trait Bytes: Drop {
             (λ b. n ≡ min (length into.old) (length b - offset))) }
         ensures bytes { IfOk result (λ n. IfSome (told self.now) (λ b. take n into.new ≡ take n (drop offset b))) };
 
-    // No clause says what these three leave.
-    fn write_at(&mut self, offset: u64, bytes: &[u8]) -> io::Result<()>;
+    // Writes over what is there, and past the end.
+    fn write_at(&mut self, offset: u64, bytes: &[u8]) -> io::Result<()>
+        ensures written { OnOk result (told self.new ≡ option_map (λ b. written b offset bytes.now) (told self.old)) }
+        ensures failed { OnErr result (BothTold (Torn offset (length bytes.now)) (told self.old) (told self.new)) };
 
-    fn cut(&mut self, to: u64) -> io::Result<()>;
+    fn cut(&mut self, to: u64) -> io::Result<()>
+        ensures cut { OnOk result (told self.new ≡ option_map (λ b. take to b) (told self.old)) }
+        ensures failed { OnErr result (BothTold (Cut to) (told self.old) (told self.new)) };
 
-    fn sync(&mut self) -> io::Result<()>;
+    // No clause says what it leaves if it fails.
+    fn sync(&mut self) -> io::Result<()>
+        ensures still { OnOk result (told self.new ≡ told self.old) };
 }
 
 // Bytes of which a piece was read ahead. For contracts these are the bytes alone: the piece isn't seen.
@@ -87,18 +94,28 @@ impl<B: Bytes> ReadAhead<B> {
         read_through(&self.inner, &mut self.start, &mut self.piece, offset, into)
     }
 
-    pub(crate) fn write_at(&mut self, offset: u64, bytes: &[u8]) -> io::Result<()> {
+    pub(crate) fn write_at(&mut self, offset: u64, bytes: &[u8]) -> io::Result<()>
+        ensures written { OnOk result (B.told self.new
+            ≡ option_map (λ b. written b offset bytes.now) (B.told self.old)) }
+        ensures failed { OnErr result (BothTold (Torn offset (length bytes.now)) (B.told self.old)
+            (B.told self.new)) }
+    {
         forget(&mut self.piece);
         self.inner.write_at(offset, bytes)
     }
 
-    pub(crate) fn cut(&mut self, to: u64) -> io::Result<()> {
+    pub(crate) fn cut(&mut self, to: u64) -> io::Result<()>
+        ensures cut { OnOk result (B.told self.new ≡ option_map (λ b. take to b) (B.told self.old)) }
+        ensures failed { OnErr result (BothTold (Cut to) (B.told self.old) (B.told self.new)) }
+    {
         forget(&mut self.piece);
         self.inner.cut(to)
     }
 
     // A sync that fails may leave other bytes than were read before.
-    pub(crate) fn sync(&mut self) -> io::Result<()> {
+    pub(crate) fn sync(&mut self) -> io::Result<()>
+        ensures still { OnOk result (B.told self.new ≡ B.told self.old) }
+    {
         forget(&mut self.piece);
         self.inner.sync()
     }

@@ -1,7 +1,7 @@
 ghost use Rattle.std.specs.Prelude.{◌≡◌, ◌≤◌, ◌+◌, ◌-◌, ◌^◌, None, IsErr, min};
 ghost use Rattle.lrs_disk.specs.Faults.{HasCause};
 
-use crate::ahead::ReadAhead;
+use crate::behind::WriteBehind;
 use crate::faults::Faults;
 use crate::file::{OWNER_ALONE, OptionalFile};
 use crate::reports::report;
@@ -19,18 +19,35 @@ use std::rt::Files;
 pub(crate) struct Content<R> {
     rt: R,
     name: String,
-    file: ReadAhead<OptionalFile>,
+    file: WriteBehind<OptionalFile>,
 }
 
 /// A file as a disk. A name that has no file reads as an empty one; the file is made when it is first written.
 ///
 /// A small read reads `READ_AHEAD` bytes, from which later ones are answered until the disk is written, cut or synced.
 /// If that isn't possible it reads what was asked for.
-#[derive(Drop)]
+///
+/// Writes that follow one another wait in `WRITE_BEHIND` bytes until the next call of another kind, a write elsewhere or
+/// the end of that room, and are then written at once. If this fails, that call fails, and the bytes go on waiting. If
+/// there is no memory for them they don't wait.
 pub struct FileDisk<R: Files<File = File> + Eprint + Copy> {
     content: Content<R>,
     moment: u64,
     faults: Faults,
+}
+
+// What waits is written, unless a call has failed: then the file stays as that left it.
+impl<R: Files<File = File> + Eprint + Copy> Drop for FileDisk<R> {
+    fn drop(mut self) {
+        if self.faults.count == 0 {
+            let _ = self.flush();
+        }
+        let FileDisk {
+            content: _,
+            moment: _,
+            faults: _,
+        } = self;
+    }
 }
 
 impl<R: Files<File = File> + Eprint + Copy> FileDisk<R> {
@@ -65,6 +82,17 @@ impl<R: Files<File = File> + Eprint + Copy> FileDisk<R> {
         report(&self.content.rt, &self.content.name, action, error);
         self.faults.failed()
     }
+
+    // Writes what waits.
+    fn flush(&mut self) -> Result<(), Failed>
+        ensures cause { HasCause (faults_of self.old) (faults_of self.new) result }
+        ensures moment { moment_of self.new ≡ moment_of self.old }
+    {
+        match self.content.file.flush() {
+            Ok(()) => Ok(()),
+            Err(error) => self.failed("write", &error),
+        }
+    }
 }
 
 impl<R: Files<File = File> + Eprint + Copy> Disk for FileDisk<R> {
@@ -93,6 +121,7 @@ impl<R: Files<File = File> + Eprint + Copy> Disk for FileDisk<R> {
 
     fn len(&mut self) -> Result<u64, Failed> {
         self.tick();
+        self.flush()?;
         match self.content.file.inner().len() {
             Ok(number) => Ok(number),
             Err(error) => self.failed("tell its size", &error),
@@ -101,6 +130,7 @@ impl<R: Files<File = File> + Eprint + Copy> Disk for FileDisk<R> {
 
     fn read_at(&mut self, offset: u64, into: &mut [u8]) -> Result<usize, Failed> {
         self.tick();
+        self.flush()?;
         match self.content.file.read_at(offset, into) {
             Ok(number) => Ok(number),
             Err(error) => self.failed("read", &error),
@@ -118,6 +148,7 @@ impl<R: Files<File = File> + Eprint + Copy> Disk for FileDisk<R> {
 
     fn cut(&mut self, to: u64) -> Result<(), Failed> {
         self.tick();
+        self.flush()?;
         match self.content.file.cut(to) {
             Ok(()) => Ok(()),
             Err(error) => self.failed("truncate", &error),
@@ -126,6 +157,7 @@ impl<R: Files<File = File> + Eprint + Copy> Disk for FileDisk<R> {
 
     fn sync(&mut self) -> Result<(), Failed> {
         self.tick();
+        self.flush()?;
         match self.content.file.sync() {
             Ok(()) => Ok(()),
             Err(error) => self.failed("sync", &error),
@@ -160,6 +192,8 @@ impl<R: Files<File = File> + Eprint + Copy> Content<R> {
         if !self.file.inner().is_there() {
             let file = make(&self.rt, self.name.as_str())?;
             self.file.replace(OptionalFile::new(Some(file)));
+            // So a file that takes nothing isn't told as made.
+            return self.file.write_through(offset, bytes);
         }
         self.file.write_at(offset, bytes)
     }
@@ -177,7 +211,7 @@ pub(crate) fn open<R: Files<File = File> + Eprint + Copy>(
     Ok(Content {
         rt,
         name,
-        file: ReadAhead::new(alloc, OptionalFile::new(file)),
+        file: WriteBehind::new(alloc, OptionalFile::new(file)),
     })
 }
 

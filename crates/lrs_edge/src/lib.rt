@@ -4,13 +4,14 @@
 //! gives. Each counts its failed calls. That a file is an honest disk is trusted.
 //!
 //! Small reads of a file are answered from larger ones (`ahead`). That such an answer is what a read gives is proved of
-//! any bytes that tell what they hold.
+//! any bytes that tell what they hold. Small writes that follow one another are gathered into larger ones (`behind`).
 //!
 //! If a call of a file or an address fails, standard error says why in one line, with the name of the file or the
 //! address. The lobby also says there where it listens.
 #![tactic(auto)]
 
 mod ahead;
+mod behind;
 mod clock;
 mod disk;
 mod door;
@@ -25,6 +26,7 @@ mod shelf;
 mod streams;
 
 pub use ahead::READ_AHEAD;
+pub use behind::WRITE_BEHIND;
 pub use disk::FileDisk;
 pub use door::TcpDoor;
 pub use link::TcpLink;

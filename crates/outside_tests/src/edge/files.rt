@@ -10,7 +10,7 @@ use std::test::Fail;
 use std::{env, fs};
 
 // A file of its own for a test, in the folder for temporary ones.
-fn path_of(rt: HostRuntime, test: &str) -> Result<PathBuf, Fail> {
+pub(crate) fn path_of(rt: HostRuntime, test: &str) -> Result<PathBuf, Fail> {
     let mut path = env::temp_dir(&rt)?;
     let process = std::process::id(rt.process());
     path.push(format!(in rt.alloc(); "kilnlime-lrs-edge-{process}-{test}")?.as_str())?;
