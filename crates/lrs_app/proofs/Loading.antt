@@ -54,7 +54,6 @@ refused_stops h final a end (said.Refused (refusal.Conflict held)) is says ends 
 refused_stops h final a end (said.Refused (refusal.Full need limit)) is says ends same =
     subst (λ (x : Ending). StopsLoading h a final x) (sym ends)
     (subst (λ (t : Answered). EndsLoad t (ending.Full need limit)) (sym is) refl, same ∙ ap (λ (o : Option Entry). with_entry h o) says.1)
-refused_stops h final a end (said.Refused (refusal.CourseConflict held)) is says ends same = absurd says.0
 refused_stops h final a end (said.Refused (refusal.Broken r)) is says ends same = absurd says.0
 refused_stops h final a end (said.Refused refusal.TooLong) is says ends same = absurd says.0
 refused_stops h final a end (said.Refused refusal.Unauthorized) is says ends same = absurd says.0

@@ -87,7 +87,6 @@ is_trouble other = false
 
 refused_calm : (r : Refusal) (end : Ending) → EndsRefused r end → is_trouble end ≡ false
 refused_calm (refusal.Conflict held) end e = ap is_trouble e
-refused_calm (refusal.CourseConflict held) end e = absurd e
 refused_calm (refusal.Full need limit) end e = ap is_trouble e
 refused_calm (refusal.Broken r) end e = ap is_trouble e
 refused_calm refusal.TooLong end e = ap is_trouble e

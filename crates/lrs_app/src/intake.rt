@@ -50,7 +50,6 @@ fn ending_refused(refusal: Refusal) -> Ending
         Refusal::Broken(rule) => Ending::Refused(rule),
         Refusal::TooLong => Ending::TooLong,
         Refusal::Forbidden(rule) => Ending::Refused(rule),
-        Refusal::CourseConflict(_) => unreachable!(),
         Refusal::Unauthorized => unreachable!(),
         Refusal::NotFound => unreachable!(),
     }

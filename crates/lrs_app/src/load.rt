@@ -34,7 +34,6 @@ fn refused(refusal: Refusal) -> Ending
         Refusal::Broken(_) => unreachable!(),
         Refusal::TooLong => unreachable!(),
         Refusal::Forbidden(_) => unreachable!(),
-        Refusal::CourseConflict(_) => unreachable!(),
         Refusal::Unauthorized => unreachable!(),
         Refusal::NotFound => unreachable!(),
     }

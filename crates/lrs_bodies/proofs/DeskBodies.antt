@@ -1,4 +1,4 @@
--- The bodies of the desk: each has one value, and a launch that breaks no rule passes each test.
+-- The bodies of the desk: each has one value, and an enrolment or a launch that breaks no rule passes each test.
 use Rattle.std.proofs.Common.{◌≡◌, ℕ, Bool, true, false, List, ◌++◌, Option, Some, None, MatchOption, codes, refl, sym, ◌∙◌}
 use Rattle.std.proofs.lemmas.Option.{same_Some}
 use Rattle.lrs_agents.specs.Readings.{IsAgentOf}
@@ -6,10 +6,10 @@ use Rattle.lrs_agents.specs.declared.agents.Agent.{Agent}
 use Rattle.lrs_json.specs.Find.{find}
 use Rattle.lrs_json.specs.Json.{Json}
 use Rattle.lrs_names.specs.Iris.{is_iri}
-use Rattle.lrs_names.specs.Members.{if_member, is_string_that}
+use Rattle.lrs_names.specs.Members.{has_member_that, if_member, is_string_that}
 use Rattle.lrs_names.specs.Rules.{least, lesser, unless}
 use Rattle.lrs_names.proofs.RuleLemmas.{least-append}
-use Rattle.lrs_bodies.specs.DeskBodies.{IsEnrolmentIn, IsLaunchIn, IsWaiverIn, IsSweepIn, has_iri, is_launch, is_mode, launch_body_faults}
+use Rattle.lrs_bodies.specs.DeskBodies.{IsEnrolmentIn, IsLaunchIn, IsWaiverIn, IsSweepIn, enrolment_body_faults, has_iri, is_enrolment, is_launch, is_mode, launch_body_faults, names_edition, tells_learner}
 use Rattle.lrs_bodies.specs.declared.body_value.BodyValue.{BodyValue}
 use Rattle.lrs_bodies.specs.declared.body_value.BodyValue.TheVariants as body
 
@@ -27,9 +27,10 @@ one_actor (Some j) a b h k = one_agent j a b h k
 
 pub one_enrolment : (j : Json) (a b : BodyValue) → IsEnrolmentIn j a → IsEnrolmentIn j b → a ≡ b
 one_enrolment j a b h k =
-    let course : h.0 ≡ k.0 = same_Some h.0 k.0 (sym h.2.course_is ∙ k.2.course_is) in
-    let actor : h.1 ≡ k.1 = one_actor (find (codes "actor") j) h.1 k.1 h.2.actor_is k.2.actor_is in
-    h.3 ∙ (λ i. body.Enrolment (course i) (actor i)) ∙ sym k.3
+    let course : h.0 ≡ k.0 = same_Some h.0 k.0 (sym h.3.course_is ∙ k.3.course_is) in
+    let actor : h.1 ≡ k.1 = one_actor (find (codes "actor") j) h.1 k.1 h.3.actor_is k.3.actor_is in
+    let edition : h.2 ≡ k.2 = sym h.3.edition_is ∙ k.3.edition_is in
+    h.4 ∙ (λ i. body.Enrolment (course i) (actor i) (edition i)) ∙ sym k.4
 
 pub one_launch : (j : Json) (a b : BodyValue) → IsLaunchIn j a → IsLaunchIn j b → a ≡ b
 one_launch j a b h k =
@@ -49,7 +50,7 @@ one_sweep j a b h k =
     let idle : h.0 ≡ k.0 = same_Some h.0 k.0 (sym h.1 ∙ k.1) in
     h.2 ∙ (λ i. body.Sweep (idle i)) ∙ sym k.2
 
--- ---- a launch that breaks no rule
+-- ---- an enrolment and a launch that break no rule
 
 no_lesser : (a b : Option ℕ) → lesser a b ≡ None → (a ≡ None) × (b ≡ None)
 no_lesser None None e = (refl, refl)
@@ -64,6 +65,16 @@ passed false n e = absurd (cc e)
 met : (rules : List ℕ) (passes : Bool) (n : ℕ) → least (rules ++ unless passes n) ≡ None → (least rules ≡ None) × (passes ≡ true)
 met rules passes n e =
     let parts = no_lesser (least rules) (least (unless passes n)) (sym (least-append rules (unless passes n)) ∙ e) in (parts.0, passed passes n parts.1)
+
+pub enrolment_unbroken : (j : Json) → least (enrolment_body_faults j) ≡ None → (has_member_that (codes "actor") tells_learner j ≡ true) × (has_iri (codes "course") j ≡ true)
+enrolment_unbroken j e =
+    let actor = has_member_that (codes "actor") tells_learner j in
+    let course = has_iri (codes "course") j in
+    let edition = if_member (codes "edition") names_edition j in
+    let editions = met (unless (is_enrolment j) 1 ++ unless actor 3 ++ unless course 8) edition 10 e in
+    let courses = met (unless (is_enrolment j) 1 ++ unless actor 3) course 8 editions.0 in
+    let actors = met (unless (is_enrolment j) 1) actor 3 courses.0 in
+    (actors.1, courses.1)
 
 pub launch_unbroken : (j : Json) → least (launch_body_faults j) ≡ None
     → (if_member (codes "mode") (is_string_that is_mode) j ≡ true) × (if_member (codes "returnURL") (is_string_that is_iri) j ≡ true) × (has_iri (codes "unit") j ≡ true)

@@ -1,6 +1,6 @@
 pub mod Readings
 pub mod Batches
 pub mod StringBodies
-pub mod IdleSeconds
+pub mod SpelledNumbers
 pub mod DeskBodies
 pub mod OneBody

@@ -21,37 +21,61 @@ use Rattle.lrs_names.specs.Members.{text_under}
 use Rattle.lrs_names.specs.Rules.{least, unless}
 use Rattle.lrs_bodies.specs.declared.body_value.BodyValue.{BodyValue}
 use Rattle.lrs_bodies.specs.declared.body_value.BodyValue.TheVariants as body
-use Rattle.lrs_rules.specs.declared.limits.TheConstants.{LONGEST_IDLE}
+use Rattle.lrs_rules.specs.declared.limits.TheConstants.{LONGEST_IDLE, MOST_EDITION}
 
 -- a member that stands, and is a string that is an IRI
 abbrev pub has_iri : List ℕ → Json → Bool
 has_iri name j = has_member_that name (is_string_that is_iri) j
 
--- ---- an enrolment: `{"course":IRI,"actor":AGENT}`
+-- the number that digits spell, without a sign, a point or an exponent, if it is in this range
+abbrev pub number_between : ℕ → ℕ → List ℕ → Option ℕ
+number_between lowest highest spelling =
+    if list_all is_ascii_digit spelling && nat_lt 0 (length spelling) && nat_le lowest (digits_value 10 spelling)
+    && nat_le (digits_value 10 spelling) highest
+    then Some (digits_value 10 spelling) else None
 
--- an object of just these members
+-- of a value that is a number
+abbrev pub number_in : ℕ → ℕ → Json → Option ℕ
+number_in lowest highest j = option_and_then (number_between lowest highest) (spelling_of j)
+
+-- ---- an enrolment: `{"course":IRI,"actor":AGENT,"edition":NUMBER}`, of which the last may be missing
+
+-- an object of no other members, which has the first two
 abbrev pub is_enrolment : Json → Bool
 is_enrolment j =
-    has_only (codes "course" ∷ codes "actor" ∷ []) j && has_member (codes "course") j && has_member (codes "actor") j
+    has_only (codes "course" ∷ codes "actor" ∷ codes "edition" ∷ []) j && has_member (codes "course") j
+    && has_member (codes "actor") j
 
 -- an Agent, known by an account (cmi5 Quartz, section 8.1.3)
 abbrev pub tells_learner : Json → Bool
 tells_learner j = is_none (least (agent_faults j)) && has_member (codes "account") j
 
+-- a number of 1 to 9 digits, of which the first isn't 0
+abbrev pub edition_in : Json → Option ℕ
+edition_in j = number_in 1 MOST_EDITION j
+
+abbrev pub names_edition : Json → Bool
+names_edition j = is_some (edition_in j)
+
+abbrev pub edition_under : Json → Option ℕ
+edition_under j = option_and_then edition_in (find (codes "edition") j)
+
 -- the numbers of the rules B that it breaks
 abbrev pub enrolment_body_faults : Json → List ℕ
 enrolment_body_faults j =
     unless (is_enrolment j) 1 ++ unless (has_member_that (codes "actor") tells_learner j) 3
-    ++ unless (has_iri (codes "course") j) 8
+    ++ unless (has_iri (codes "course") j) 8 ++ unless (if_member (codes "edition") names_edition j) 10
 
--- what an enrolment that breaks no rule says
-pub record IsEnrolment (j : Json) (course : List ℕ) (actor : Agent) : Type 0 where
+-- What an enrolment that breaks no rule says. An edition that it names is a number by that rule.
+pub record IsEnrolment (j : Json) (course : List ℕ) (actor : Agent) (edition : Option ℕ) : Type 0 where
   pub course_is : text_under (codes "course") j ≡ Some course
   pub actor_is : MatchOption (find (codes "actor") j) ⊥ (λ a. IsAgentOf a actor)
+  pub edition_is : edition_under j ≡ edition
 
 abbrev pub IsEnrolmentIn : Json → BodyValue → Type 0
 IsEnrolmentIn j value =
-    (course : List ℕ) × (actor : Agent) × IsEnrolment j course actor × (value ≡ body.Enrolment course actor)
+    (course : List ℕ) × (actor : Agent) × (edition : Option ℕ) × IsEnrolment j course actor edition
+    × (value ≡ body.Enrolment course actor edition)
 
 -- ---- a launch: `{"unit":IRI,"mode":MODE,"returnURL":IRI}`, of which the last two may be missing
 
@@ -120,17 +144,9 @@ empty_body_faults j = unless (has_only [] j) 1
 abbrev pub is_sweep : Json → Bool
 is_sweep j = has_only (codes "idle" ∷ []) j && has_member (codes "idle") j
 
--- the number that digits spell, without a sign, a point or an exponent, if it isn't too large
-abbrev pub idle_of : List ℕ → Option ℕ
-idle_of spelling =
-    if list_all is_ascii_digit spelling && nat_lt 0 (length spelling) && nat_le (digits_value 10 spelling) LONGEST_IDLE
-    then Some (digits_value 10 spelling) else None
-
-abbrev pub idle_in : Json → Option ℕ
-idle_in j = option_and_then idle_of (spelling_of j)
-
+-- how long, in whole seconds
 abbrev pub idle_under : Json → Option ℕ
-idle_under j = option_and_then idle_in (find (codes "idle") j)
+idle_under j = option_and_then (number_in 0 LONGEST_IDLE) (find (codes "idle") j)
 
 -- the numbers of the rules B that it breaks
 abbrev pub sweep_body_faults : Json → List ℕ

@@ -21,10 +21,11 @@ pub enum BodyValue {
     Strings(Items<Text>),
     /// A course that isn't looked into.
     Course(Tree),
-    /// The id of a course, and who is enrolled in it.
+    /// The id of a course, who is enrolled in it, and the number of the edition, if it is named.
     Enrolment {
         course: Iri,
         actor: Agent,
+        edition: Option<u32>,
     },
     /// The id of a unit that is launched, in which mode, and where its content sends the learner back to.
     Launch {

@@ -8,18 +8,19 @@ ghost use Rattle.lrs_names.specs.Iris.{is_iri};
 ghost use Rattle.lrs_names.specs.Members.{has_member_that, if_member, is_string_that, text_under};
 ghost use Rattle.lrs_names.specs.Rules.{least};
 ghost use Rattle.lrs_bodies.specs.Bodies.{BodyBreaks, IsInBody, IsLeastOf, course_body, enrolment_body, launch_body};
-ghost use Rattle.lrs_bodies.specs.DeskBodies.{IsEnrolmentIn, IsLaunchIn, enrolment_body_faults, has_iri, is_enrolment, is_launch, tells_learner, is_mode, launch_body_faults, mode_or_normal};
+ghost use Rattle.lrs_bodies.specs.DeskBodies.{IsEnrolmentIn, IsLaunchIn, edition_in, edition_under, enrolment_body_faults, has_iri, is_enrolment, is_launch, tells_learner, is_mode, launch_body_faults, mode_or_normal, names_edition};
 ghost use Rattle.lrs_bodies.specs.Looks.{FindsForm};
 
 use crate::body_value::BodyValue;
 use crate::form_refused::FormRefused;
 use crate::json::body_tree;
+use crate::numbers::number_in;
 use cmi5_course::Mode;
 use lrs_agents::{Agent, NameRefused};
 use lrs_http::Request;
 use lrs_json::{Memory, Text, Tree};
 use lrs_names::{Iri, has_member, has_only, holds_iri, lesser, text_under, unless};
-use lrs_rules::Rule;
+use lrs_rules::{MOST_EDITION, Rule};
 use std::alloc::Global;
 
 /// The body as a course that isn't looked into.
@@ -30,7 +31,7 @@ pub fn read_course(alloc: Global, request: &Request) -> Result<BodyValue, FormRe
     Ok(BodyValue::Course(course))
 }
 
-/// The body as an enrolment: a course's id, and an Agent.
+/// The body as an enrolment: a course's id, an Agent, and perhaps an edition.
 pub fn read_enrolment(alloc: Global, request: &Request) -> Result<BodyValue, FormRefused>
     ensures { FindsForm (BodyBreaks enrolment_body request.now) (IsInBody enrolment_body request.now) result }
 {
@@ -66,13 +67,16 @@ fn broken_enrolment(tree: &Tree) -> Option<u8>
     let members = unless(is_enrolment(tree), 1);
     let actor = unless(has_learner(tree), 3);
     let course = unless(has_iri(tree, "course"), 8);
-    lesser(members, lesser(actor, course))
+    let edition = unless(has_edition_if_any(tree), 10);
+    lesser(members, lesser(actor, lesser(course, edition)))
 }
 
 fn is_enrolment(tree: &Tree) -> bool
     ensures { result ≡ is_enrolment (view tree.now) }
 {
-    has_only(tree, &["course", "actor"]) && has_member(tree, "course") && has_member(tree, "actor")
+    has_only(tree, &["course", "actor", "edition"])
+        && has_member(tree, "course")
+        && has_member(tree, "actor")
 }
 
 fn has_learner(tree: &Tree) -> bool
@@ -90,6 +94,21 @@ fn tells_learner(tree: &Tree) -> bool
     Agent::broken(tree).is_none() && has_member(tree, "account")
 }
 
+fn has_edition_if_any(tree: &Tree) -> bool
+    ensures { result ≡ if_member (codes "edition") names_edition (view tree.now) }
+{
+    match tree.get("edition") {
+        Some(value) => edition_in(value).is_some(),
+        None => true,
+    }
+}
+
+fn edition_in(tree: &Tree) -> Option<u32>
+    ensures { result ≡ edition_in (view tree.now) }
+{
+    number_in(1, MOST_EDITION, tree)
+}
+
 pub(crate) fn has_iri(tree: &Tree, name: &str) -> bool
     ensures { result ≡ has_iri name.now (view tree.now) }
 {
@@ -99,14 +118,28 @@ pub(crate) fn has_iri(tree: &Tree, name: &str) -> bool
     }
 }
 
-// An enrolment that breaks no rule has both members.
+// An enrolment that breaks no rule has a course and an actor.
 fn unbroken_enrolment(alloc: Global, tree: &Tree) -> Result<BodyValue, Memory>
     requires { least (enrolment_body_faults (view tree.now)) ≡ None }
     ensures { IfOk result (IsEnrolmentIn (view tree.now)) }
 {
     let course = iri_under(alloc, tree, "course")?;
     let actor = actor_of(alloc, tree)?;
-    Ok(BodyValue::Enrolment { course, actor })
+    let edition = edition_under(tree);
+    Ok(BodyValue::Enrolment {
+        course,
+        actor,
+        edition,
+    })
+}
+
+fn edition_under(tree: &Tree) -> Option<u32>
+    ensures { edition_under (view tree.now) ≡ result }
+{
+    match tree.get("edition") {
+        Some(value) => edition_in(value),
+        None => None,
+    }
 }
 
 fn actor_of(alloc: Global, tree: &Tree) -> Result<Agent, Memory>

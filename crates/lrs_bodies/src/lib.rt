@@ -9,6 +9,7 @@ mod documents;
 mod form_refused;
 mod json;
 mod media;
+mod numbers;
 mod statements;
 mod strings;
 mod sweeps;

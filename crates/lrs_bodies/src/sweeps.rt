@@ -1,16 +1,15 @@
 // The bodies by which sessions are abandoned: one, which has nothing to say, and those that are idle.
-ghost use Rattle.std.specs.Prelude.{◌≡◌, nat_le, if◌then◌else◌, Some, None};
-ghost use Rattle.std.specs.Char.{is_ascii_digit};
-ghost use Rattle.std.specs.List.{list_all};
+ghost use Rattle.std.specs.Prelude.{◌≡◌};
 ghost use Rattle.lrs_json.specs.View.{view};
 ghost use Rattle.lrs_bodies.specs.Bodies.{BodyBreaks, IsInBody, IsLeastOf, empty_body, sweep_body};
-ghost use Rattle.lrs_bodies.specs.DeskBodies.{IsSweepIn, empty_body_faults, idle_in, idle_of, idle_under, is_sweep, sweep_body_faults};
+ghost use Rattle.lrs_bodies.specs.DeskBodies.{IsSweepIn, empty_body_faults, idle_under, is_sweep, sweep_body_faults};
 ghost use Rattle.lrs_bodies.specs.Looks.{FindsForm};
 ghost use Rattle.lrs_bodies.specs.declared.body_value.BodyValue.TheVariants as body;
 
 use crate::body_value::BodyValue;
 use crate::form_refused::FormRefused;
 use crate::json::body_tree;
+use crate::numbers::number_in;
 use lrs_http::Request;
 use lrs_json::Tree;
 use lrs_names::{has_member, has_only};
@@ -69,45 +68,7 @@ fn idle_under(tree: &Tree) -> Option<u32>
     ensures { result ≡ idle_under (view tree.now) }
 {
     match tree.get("idle") {
-        Some(value) => idle_in(value),
+        Some(value) => number_in(0, LONGEST_IDLE, value),
         None => None,
-    }
-}
-
-fn idle_in(tree: &Tree) -> Option<u32>
-    ensures { result ≡ idle_in (view tree.now) }
-{
-    match tree {
-        Tree::Number(spelling) => idle_of(spelling.as_str()),
-        _ => None,
-    }
-}
-
-// The number that digits alone spell, if it isn't too large.
-fn idle_of(spelling: &str) -> Option<u32>
-    ensures { result ≡ idle_of spelling.now }
-{
-    if !are_digits(spelling) {
-        return None;
-    }
-    match spelling.parse::<u32>() {
-        Ok(idle) => if_short(idle),
-        Err(_) => None,
-    }
-}
-
-fn are_digits(spelling: &str) -> bool
-    ensures { result ≡ list_all is_ascii_digit spelling.now }
-{
-    spelling.bytes().all(|digit| digit.is_ascii_digit())
-}
-
-fn if_short(idle: u32) -> Option<u32>
-    ensures { result ≡ (if nat_le idle LONGEST_IDLE then Some idle else None) }
-{
-    if idle <= LONGEST_IDLE {
-        Some(idle)
-    } else {
-        None
     }
 }

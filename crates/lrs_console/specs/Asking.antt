@@ -56,11 +56,10 @@ without_rule (Some n) = ending.Refused (rule.S n)
 abbrev pub ending_without_id : Json → Ending
 ending_without_id j = if is_too_long j then ending.TooLong else without_rule (broken_rule j)
 
--- A statement that is refused ends so. The operator is let in, and to keep a statement is no missing thing and no
--- course. All that is forbidden to it is a statement that cmi5 defines.
+-- A statement that is refused ends so. The operator is let in, and a statement misses nothing. All that is forbidden to
+-- it is a statement that cmi5 defines.
 abbrev pub EndsRefused : Refusal → Ending → Type 0
 EndsRefused (refusal.Conflict held) end = end ≡ ending.Conflict held
-EndsRefused (refusal.CourseConflict held) end = ⊥
 EndsRefused (refusal.Full need limit) end = end ≡ ending.Full need limit
 EndsRefused (refusal.Broken r) end = end ≡ ending.Refused r
 EndsRefused refusal.TooLong end = end ≡ ending.TooLong

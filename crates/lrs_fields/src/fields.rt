@@ -119,6 +119,17 @@ pub fn optional_iri_behind(front: &[u8], cursor: &mut Cursor<'_>) -> Result<Opti
     Ok(None)
 }
 
+/// The number, if the bytes before it come next.
+pub fn optional_number_behind(front: &[u8], cursor: &mut Cursor<'_>) -> Result<Option<u32>, Stop>
+    ensures read { ReadsOptional front.now number_value cursor.old result cursor.new }
+    ensures none { IfOk result (λ o. IfNone o (IsMissing front.now cursor.old)) }
+{
+    if cursor.take(front) {
+        return Ok(Some(number_behind(b"", cursor)?));
+    }
+    Ok(None)
+}
+
 fn iri_of(text: Text) -> Result<Iri, Stop>
     ensures { ReadsSpelling (λ iri. iri) (λ iri. IsTrue (is_iri iri)) text result }
 {

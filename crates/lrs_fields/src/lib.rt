@@ -10,8 +10,8 @@ mod lent;
 pub use digits::{draw_digits, draw_of, is_printed, put_word};
 pub use fields::{
     actor_behind, agent_behind, bytes_behind, id_behind, iri_behind, number_behind,
-    optional_id_behind, optional_iri_behind, optional_text_behind, text_behind, tree_behind,
-    trees_behind,
+    optional_id_behind, optional_iri_behind, optional_number_behind, optional_text_behind,
+    text_behind, tree_behind, trees_behind,
 };
 pub use lent::{Lent, put_fields};
 pub use xapi_received::ReceivedText;

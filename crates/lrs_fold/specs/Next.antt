@@ -1,18 +1,14 @@
 -- Whether an entry comes next, by the fold alone.
 use Rattle.std.specs.Prelude.{◌≡◌, ◌&&◌, ◌||◌, Bool, true, false, not, is_none, nat_le, Option, Some, None}
 use Rattle.lrs_reads.specs.LrsHistoryEffects.{effect}
-use Rattle.lrs_reads.specs.LrsHistoryHistory.{is_founding, said_at_once}
+use Rattle.lrs_reads.specs.LrsHistoryHistory.{is_founding}
+pub use Rattle.lrs_reads.specs.LrsHistoryHistory.{may_come}
 use Rattle.lrs_reads.specs.LrsHistoryRefusals.{refusal}
 use Rattle.lrs_learning.specs.LrsStateState.{State, changes_nothing}
 use Rattle.lrs_learning.specs.LrsStateEffectEffect.{Effect}
 use Rattle.lrs_record.specs.declared.entry.Entry.{Entry}
 
--- Whether an entry comes next, if there is room for it. The flag: it is the first.
-abbrev pub may_come : Bool → State → Entry → Bool
-may_come true st e = is_founding e
-may_come false st e = is_none (said_at_once st e) && nat_le st.last e.moment
-
--- the same, if it changes anything
+-- Whether an entry comes next, if there is room for it and it changes anything. The flag: it is the first.
 abbrev pub may_be_next : Bool → State → Entry → Bool
 may_be_next true st e = is_founding e
 may_be_next false st e = is_none (refusal st e) && nat_le st.last e.moment

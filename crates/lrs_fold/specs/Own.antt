@@ -12,7 +12,7 @@ use Rattle.lrs_record.specs.declared.entry.Write.TheVariants.{Found, Put}
 use Rattle.lrs_replies.specs.declared.answered.Answered.{Answered}
 use Rattle.lrs_replies.specs.declared.answered.Answered.TheVariants.{Shown, Document, Refused}
 use Rattle.lrs_replies.specs.declared.answered.Refusal.{Refusal}
-use Rattle.lrs_replies.specs.declared.answered.Refusal.TheVariants.{CourseConflict, Unauthorized, Forbidden, NotFound}
+use Rattle.lrs_replies.specs.declared.answered.Refusal.TheVariants.{Unauthorized, Forbidden, NotFound}
 use Rattle.lrs_rules.specs.declared.rule.Rule.TheVariants as rules
 
 -- the entry that a store is founded with
@@ -31,10 +31,9 @@ IsPut Operator other = ⊥
 IsPut Nobody other = ⊥
 IsPut (Token token) other = ⊥
 
--- Why the program's own put may be refused: not since its caller isn't let in, something is missing or a course stands
--- in its way. All that is forbidden to it is a statement that cmi5 defines.
+-- Why the program's own put may be refused: not since its caller isn't let in or something is missing. All that is
+-- forbidden to it is a statement that cmi5 defines.
 abbrev pub MayRefusePut : Refusal → Type 0
-MayRefusePut (CourseConflict id) = ⊥
 MayRefusePut Unauthorized = ⊥
 MayRefusePut (Forbidden rule) = rule ≡ rules.C 1
 MayRefusePut NotFound = ⊥

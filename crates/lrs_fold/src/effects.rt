@@ -121,14 +121,11 @@ impl Fold {
                 state,
             } => self.drop_documents(alloc, moment, activity, agent, registration, state),
             Write::Course { tree } => self.course(alloc, moment, tree, spent),
-            Write::Enrol { course, actor } => enrolling(
-                alloc,
-                &self.parts,
-                moment,
-                draw,
+            Write::Enrol {
                 course,
                 actor,
-            ),
+                edition,
+            } => enrolling(alloc, &self.parts, moment, draw, course, actor, edition),
             Write::Launch {
                 registration,
                 unit,

@@ -32,7 +32,7 @@ fn acceptance_said(alloc: Global, acceptance: &Acceptance, same: bool) -> Result
         }
         Acceptance::Ids(ids) => shown(ids_text(alloc, ids.as_slice())),
         Acceptance::Provider { index, token } => shown(provider_text(alloc, *index, token)),
-        Acceptance::Course(id) => shown(course_text(alloc, id)),
+        Acceptance::Course { id, edition } => shown(course_text(alloc, id, *edition)),
         Acceptance::Registration(id) => shown(registration_text(alloc, id)),
         Acceptance::Launch {
             session,

@@ -42,7 +42,7 @@ abbrev pub acceptance_said : Acceptance → Answered → Answered
 acceptance_said Plain said = said
 acceptance_said (acceptance.Ids ids) said = Shown (ids_body ids) None
 acceptance_said (Provider index token) said = Shown (provider_body index token) None
-acceptance_said (acceptance.Course id) said = Shown (course_body id) None
+acceptance_said (acceptance.Course id edition) said = Shown (course_body id edition) None
 acceptance_said (acceptance.Registration id) said = Shown (registration_body id) None
 acceptance_said (acceptance.Launch session method url) said = Shown (launch_body session method url) None
 acceptance_said (acceptance.Token token) said = Shown (session_token_body token) None
@@ -93,7 +93,8 @@ documents_said st (Ids activity agent registration since) =
 abbrev pub standing_said : State → Option Enrolled → Answered
 standing_said st None = answered.Refused NotFound
 standing_said st (Some e) = Shown
-    (standing_body e.registration.id (course_key e.course) (nodes_of e.course.nodes (verdicts_of st e))) None
+    (standing_body e.registration.id (course_key e.edition.course) e.edition.number
+    (nodes_of e.edition.course.nodes (verdicts_of st e))) None
 
 -- What is said to a question that isn't refused. Of what isn't there this is said.
 abbrev pub read_said : State → Who → Read → Answered

@@ -1,6 +1,6 @@
 -- What the desk's entries change: courses and registrations, launches and fetches, waivers and abandonments.
-use Rattle.std.specs.Prelude.{ℕ, Bool, true, false, List, [], ◌∷◌, ◌++◌, length, Option, Some, None, if◌then◌else◌}
-use Rattle.cmi5_course.specs.Courses.{Course, course_key}
+use Rattle.std.specs.Prelude.{ℕ, ◌+◌, Bool, true, false, List, [], ◌∷◌, ◌++◌, length, Option, Some, None, if◌then◌else◌}
+use Rattle.cmi5_course.specs.Courses.{Course, course_key, same_course}
 use Rattle.cmi5_course.specs.declared.launch.Mode.{Mode}
 use Rattle.cmi5_course.specs.declared.reason.Reason.{Reason}
 use Rattle.cmi5_verdict.specs.Cmi5LaunchNames.{waived}
@@ -11,11 +11,13 @@ use Rattle.lrs_history.specs.Enrolments.{enrolled_as}
 use Rattle.lrs_history.specs.Launches.{Target, activity_at, address_at, data_at, data_key, launch_at, launched_at}
 use Rattle.lrs_history.specs.Made.{left_behind, made_under, owed_made, waived_at}
 use Rattle.lrs_history.specs.Sessions.{is_closed}
-use Rattle.lrs_state.specs.Courses.{course_under}
+use Rattle.lrs_state.specs.Courses.{course_under, newest_edition}
+use Rattle.lrs_state.specs.Editions.{SeenEdition}
 use Rattle.lrs_state.specs.Sessions.{unchanged_sessions}
 use Rattle.lrs_state.specs.State.{State, no_change}
 use Rattle.lrs_state.specs.declared.acceptance.Acceptance.{Acceptance}
 use Rattle.lrs_state.specs.declared.acceptance.Acceptance.TheVariants as acceptance
+use Rattle.lrs_state.specs.declared.courses.HeldCourse.{HeldCourse}
 use Rattle.lrs_state.specs.declared.launches.HeldKey.{HeldKey}
 use Rattle.lrs_state.specs.declared.registrations.HeldRegistration.{HeldRegistration}
 use Rattle.lrs_state.specs.declared.sessions.MadeSession.{MadeSession}
@@ -35,17 +37,47 @@ use Rattle.lrs_history.specs.Occasions.{Occasion}
 abbrev pub coming : {A : Type 0} → A → Change A
 coming item = record unchanged { new = Some item }
 
--- A course that is held is the same.
-abbrev pub new_course : Course → Option Course → Change Course
-new_course course None = coming course
-new_course course (Some held) = unchanged
+-- the number of the next edition of an id
+abbrev pub next_number : Option HeldCourse → ℕ
+next_number None = 1
+next_number (Some held) = held.editions + 1
 
--- a course is taken up; its id is told
-abbrev pub taking : State → ℕ → Course → Effect
-taking st moment course = record (no_change moment) {
-  courses = new_course course (course_under (course_key course) st.courses);
-  acceptance = acceptance.Course (course_key course);
+-- the course of an id with one edition more
+abbrev pub with_one_more : List ℕ → Option HeldCourse → Change HeldCourse
+with_one_more id None = coming (record { id = id; editions = 1 })
+with_one_more id (Some held) = record unchanged { replaced = Some (record held { editions = held.editions + 1 }) }
+
+-- the newest edition of its id, if the course is the same
+abbrev pub same_newest : Course → Option SeenEdition → Option SeenEdition
+same_newest course None = None
+same_newest course (Some newest) = if same_course newest.course course then Some newest else None
+
+-- a new edition, unless there is one that is the same
+abbrev pub new_edition : Course → Option HeldCourse → Option SeenEdition → Change SeenEdition
+new_edition course held None = coming (record { course = course; number = next_number held })
+new_edition course held (Some same) = unchanged
+
+abbrev pub new_count : List ℕ → Option HeldCourse → Option SeenEdition → Change HeldCourse
+new_count id held None = with_one_more id held
+new_count id held (Some same) = unchanged
+
+-- the number of the one or of the other
+abbrev pub number_told : Option HeldCourse → Option SeenEdition → ℕ
+number_told held None = next_number held
+number_told held (Some same) = same.number
+
+abbrev pub taking_as : ℕ → Course → Option HeldCourse → Option SeenEdition → Effect
+taking_as moment course held same = record (no_change moment) {
+  editions = new_edition course held same;
+  courses = new_count (course_key course) held same;
+  acceptance = acceptance.Course (course_key course) (number_told held same);
 }
+
+-- A course is taken up: it is the newest edition of its id if it is the same, or else a new one, behind those that are
+-- held. Its id and its number are told.
+abbrev pub taking : State → ℕ → Course → Effect
+taking st moment course = taking_as moment course (course_under (course_key course) st.courses)
+    (same_newest course (newest_edition (course_key course) st.courses st.editions))
 
 -- the session id that goes with what is said, if anything is
 abbrev pub made_session : List ℕ → List StoredStatement → Change MadeSession
@@ -66,11 +98,11 @@ abbrev pub enrolling_as : State → Occasion → HeldRegistration → Effect
 enrolling_as st at r = enrolling_with at r
     (owed_made st (at.supply 1) (rest_of (rest_of at.supply)) at.moment [] (enrolled_as st r))
 
--- a learner is enrolled in the course of that index, if there is one; the registration's id is told
+-- a learner is enrolled in the edition of that index, if there is one; the registration's id is told
 abbrev pub enrolling : State → Occasion → Agent → Option ℕ → Effect
 enrolling st at actor None = no_change at.moment
-enrolling st at actor (Some course) =
-    enrolling_as st at (record { id = at.supply 0; course = course; actor = actor })
+enrolling st at actor (Some edition) =
+    enrolling_as st at (record { id = at.supply 0; edition = edition; actor = actor })
 
 -- ---- waivers
 

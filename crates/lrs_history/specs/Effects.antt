@@ -8,7 +8,7 @@ use Rattle.lrs_history.specs.Enrolments.{enrolled}
 use Rattle.lrs_history.specs.Launches.{target}
 use Rattle.lrs_history.specs.Made.{owed_made}
 use Rattle.lrs_history.specs.Whose.{authority_of, launch_of}
-use Rattle.lrs_state.specs.Courses.{index_of_course}
+use Rattle.lrs_state.specs.Courses.{index_meant}
 use Rattle.lrs_state.specs.Launches.{key_under, index_of_session}
 use Rattle.lrs_state.specs.Providers.{unchanged_providers}
 use Rattle.lrs_state.specs.State.{State, no_change}
@@ -108,7 +108,8 @@ effect_of st at (Post statements) =
 effect_of st at (write.State h key media bytes) = writing st at.moment h key media bytes
 effect_of st at (Drop activity agent registration state) = dropping st at.moment activity agent registration state
 effect_of st at (write.Course tree) = taking st at.moment (course_of tree)
-effect_of st at (Enrol course actor) = enrolling st at actor (index_of_course course st.courses)
+effect_of st at (Enrol course actor edition) =
+    enrolling st at actor (index_meant course edition st.courses st.editions)
 effect_of st at (write.Launch registration unit mode return_url) =
     launching st at mode return_url (target st registration unit)
 effect_of st at (Fetch key) = fetching st at (key_under key st.keys)

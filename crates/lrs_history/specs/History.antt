@@ -1,6 +1,6 @@
 -- The store as a plain list of entries: what it holds, what it answers, and which lists can have come about.
-use Rattle.std.specs.Prelude.{◌≡◌, ◌<◌, ◌==◌, ◌&&◌, ℕ, max, Bool, true, false, IsTrue, List, [], ◌∷◌, ◌++◌, length, map}
-use Rattle.std.specs.Prelude.{Option, Some, None, option_map, if◌then◌else◌, nat_lt}
+use Rattle.std.specs.Prelude.{◌≡◌, ◌<◌, ◌≤◌, ◌==◌, ◌&&◌, ℕ, max, Bool, true, false, IsTrue, List, [], ◌∷◌, ◌++◌, length}
+use Rattle.std.specs.Prelude.{map, Option, Some, None, is_none, option_map, if◌then◌else◌, nat_le, nat_lt}
 use Rattle.std.specs.Option.{option_or}
 use Rattle.lrs_command.specs.declared.command.Command.{Command}
 use Rattle.lrs_command.specs.declared.command.Command.TheVariants as command
@@ -165,3 +165,29 @@ IsLegalFrom limit before (e ∷ entries) =
 -- The history can have come about in a store of this limit.
 abbrev pub IsLegal : ℕ → List Entry → Type 0
 IsLegal limit entries = (0 < length entries) × IsLegalFrom limit [] entries
+
+-- ---- histories that can be moved into another store
+
+-- Whether an entry comes next, if there is room for it. The flag: it is the first.
+abbrev pub may_come : Bool → State → Entry → Bool
+may_come true st e = is_founding e
+may_come false st e = is_none (said_at_once st e) && nat_le st.last e.moment
+
+-- the entry may come after these, if there is room for it
+abbrev pub MayComeAfter : List Entry → Entry → Type 0
+MayComeAfter before e = may_come (length before == 0) (state before) e ≡ true
+
+-- each entry may come after those before it, if there is room for it
+abbrev pub MayComeFrom : List Entry → List Entry → Type 0
+MayComeFrom before [] = Unit {0}
+MayComeFrom before (e ∷ rest) = IsLawful e × MayComeAfter before e × MayComeFrom (before ++ e ∷ []) rest
+
+-- each entry, written behind those before it, needs no more bytes than this
+abbrev pub HasRoomFrom : ℕ → List Entry → List Entry → Type 0
+HasRoomFrom limit before [] = Unit {0}
+HasRoomFrom limit before (e ∷ rest) =
+    (need (end_offset limit before) e ≤ limit) × HasRoomFrom limit (before ++ e ∷ []) rest
+
+-- these entries can be moved into a file of this limit
+abbrev pub IsMovable : ℕ → List Entry → Type 0
+IsMovable limit h = MayComeFrom [] h × HasRoomFrom limit [] h

@@ -23,7 +23,7 @@ use Rattle.xapi_pages.specs.XapiStatementStored.{StoredStatement}
 
 -- ---- the unit
 
--- a unit of a registration's course, and its index among the nodes
+-- a unit of a registration's edition, and its index among the nodes
 pub record Target : Type 0 where
   -- the address that the store's own names begin with
   pub base : List ℕ
@@ -46,13 +46,13 @@ target_in base r publisher course =
 
 abbrev pub target_of : State → List ℕ → HeldRegistration → Founding → Option Target
 target_of st publisher r founding =
-    option_and_then (target_in founding.base r publisher) (slice_get st.courses r.course)
+    option_and_then (λ e. target_in founding.base r publisher e.course) (slice_get st.editions r.edition)
 
 abbrev pub target_under : State → List ℕ → List ℕ → Founding → Option Target
 target_under st registration publisher founding =
     option_and_then (λ r. target_of st publisher r founding) (registration_under registration st.registrations)
 
--- the unit of that id in the course of that registration, if both are there and the store is founded
+-- the unit of that id in the edition of that registration, if both are there and the store is founded
 abbrev pub target : State → List ℕ → List ℕ → Option Target
 target st registration publisher = option_and_then (target_under st registration publisher) st.founding
 
@@ -60,7 +60,7 @@ target st registration publisher = option_and_then (target_under st registration
 
 -- the id under which the store knows the unit
 abbrev pub activity_at : Target → List ℕ
-activity_at t = activity_text t.base t.registration.course t.index
+activity_at t = activity_text t.base t.registration.edition t.index
 
 -- ---- what comes of it
 

@@ -10,6 +10,7 @@ pub use Rattle.cmi5_verdict.specs.Cmi5SessionViews as Cmi5SessionViews
 pub use Rattle.cmi5_verdict.specs.Nodes as Cmi5VerdictNodes
 pub use Rattle.cmi5_verdict.specs.Units as Cmi5VerdictUnits
 pub use Rattle.lrs_state.specs.Courses as LrsStateCourses
+pub use Rattle.lrs_state.specs.Editions as LrsStateEditions
 pub use Rattle.lrs_state.specs.Founding as LrsStateFounding
 pub use Rattle.lrs_state.specs.Launches as LrsStateLaunches
 pub use Rattle.lrs_state.specs.Learners as LrsStateLearners
@@ -17,6 +18,7 @@ pub use Rattle.lrs_state.specs.Registrations as LrsStateRegistrations
 pub use Rattle.lrs_state.specs.State as LrsStateState
 pub use Rattle.lrs_state.specs.declared.founding.Founding as LrsStateFoundingFounding
 pub use Rattle.lrs_state.specs.declared.registrations.HeldRegistration as LrsStateRegistrationsHeldRegistration
+pub use Rattle.lrs_time.specs.Moments as LrsTimeMoments
 pub use Rattle.xapi_pages.specs.Listings as XapiPagesListings
 pub mod Whose
 pub mod Sessions

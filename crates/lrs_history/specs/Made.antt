@@ -37,7 +37,7 @@ satisfied_json e session index node = saying_json (said_satisfied node.kind) e.r
     (activity_of_node (enrolment_of e) index) node.id e.registration.id session
 
 abbrev pub satisfied_at : Enrolled → List ℕ → ℕ → Option Json
-satisfied_at e session index = option_map (satisfied_json e session index) (node_at index e.course)
+satisfied_at e session index = option_map (satisfied_json e session index) (node_at index e.edition.course)
 
 -- what is to be said behind these new statements, in that session
 abbrev pub owed_jsons : State → List ℕ → List StoredStatement → Enrolled → List Json

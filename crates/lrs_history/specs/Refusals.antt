@@ -1,16 +1,15 @@
 -- Why a command is refused: the first reason in a fixed order. It is: the caller (A1, A2), the form (of a provider its
 -- name (B2); of a document its agent (P6), its media type (F4) and its length; of statements their number and lengths,
--- then the rules S, then P15 or B9; of a course the rules K; of an enrolment its actor (B3); of a sweep its seconds
--- (B6); of `found` 404), an earlier list that there is not (P14), what a session may not do with documents (A3 to A5),
--- what a write speaks of that isn't there (404), what can't be merged into the document that is held (T1, T2), another
--- course under its id (409), then for each statement in its order another one under its id (409) or what a new one may
--- not be (C1 to C20). What a read asks for that isn't there is told in its answer.
+-- then the rules S, then P15 or B9; of a course the rules K; of an enrolment its actor (B3), then the number of its
+-- edition (B10); of a sweep its seconds (B6); of `found` 404), an earlier list that there is not (P14), what a session
+-- may not do with documents (A3 to A5), what a write speaks of that isn't there (404), what can't be merged into the
+-- document that is held (T1, T2), then for each statement in its order another one under its id (409) or what a new one
+-- may not be (C1 to C20). What a read asks for that isn't there is told in its answer.
 use Rattle.std.specs.Prelude.{ℕ, ◌==◌, ◌&&◌, ◌||◌, nat_lt, Bool, true, false, not, List, [], ◌∷◌, length, Option, Some}
 use Rattle.std.specs.Prelude.{None, ◌++◌, is_none, option_and_then, option_map, slice_get, if◌then◌else◌}
 use Rattle.std.specs.List.{list_any}
 use Rattle.std.specs.Option.{option_or}
 use Rattle.std.specs.Str.{bytes_eq}
-use Rattle.cmi5_course.specs.Courses.{Course, course_key, course_of, same_course}
 use Rattle.cmi5_course.specs.Rules as course
 use Rattle.cmi5_course.specs.declared.launch.Launch.{Launch}
 use Rattle.cmi5_verdict.specs.Cmi5SessionRules.{broken_outside}
@@ -26,6 +25,7 @@ use Rattle.lrs_agents.specs.Identifiers.{is_identifier}
 use Rattle.lrs_agents.specs.declared.agents.Agent.{Agent}
 use Rattle.lrs_agents.specs.declared.identifiers.Ifi.{Ifi}
 use Rattle.lrs_media.specs.Media.{is_json}
+use Rattle.lrs_rules.specs.Rules.{is_edition_number}
 use Rattle.lrs_rules.specs.declared.limits.TheConstants.{LONGEST_IDLE}
 use Rattle.lrs_rules.specs.declared.rule.Rule.{Rule}
 use Rattle.lrs_rules.specs.declared.rule.Rule.TheVariants as rule
@@ -41,7 +41,7 @@ use Rattle.lrs_history.specs.declared.admitting.TheConstants.{LONGEST_DOCUMENT, 
 use Rattle.lrs_json.specs.Json.{Json}
 use Rattle.lrs_json.specs.View.{view}
 use Rattle.lrs_json.specs.declared.tree.Tree.{Tree}
-use Rattle.lrs_state.specs.Courses.{course_under, index_of_course}
+use Rattle.lrs_state.specs.Courses.{index_meant}
 use Rattle.lrs_state.specs.Launches.{key_under, index_of_session}
 use Rattle.lrs_state.specs.Learners.{is_learner}
 use Rattle.lrs_state.specs.Providers.{is_name}
@@ -53,7 +53,7 @@ use Rattle.lrs_record.specs.declared.entry.Write.TheVariants.{Found, Provider, P
 use Rattle.lrs_record.specs.declared.entry.Write.TheVariants.{Waive, Abandon, Sweep}
 use Rattle.lrs_record.specs.declared.entry.Write.TheVariants as write
 use Rattle.lrs_replies.specs.declared.answered.Refusal.{Refusal}
-use Rattle.lrs_replies.specs.declared.answered.Refusal.TheVariants.{Conflict, CourseConflict, Broken, TooLong}
+use Rattle.lrs_replies.specs.declared.answered.Refusal.TheVariants.{Conflict, Broken, TooLong}
 use Rattle.lrs_replies.specs.declared.answered.Refusal.TheVariants.{Forbidden, NotFound, Unauthorized}
 use Rattle.xapi_alike.specs.Same.{same}
 use Rattle.xapi_docs.specs.Documents.{document_under}
@@ -141,6 +141,15 @@ refused_course j = option_map (λ n. Broken (rule.K n)) (course.broken_rule j)
 abbrev pub refused_actor : Agent → Option Refusal
 refused_actor actor = when (not (is_learner actor)) (Broken (rule.B 3))
 
+-- the edition that is named can have no such number: B10
+abbrev pub refused_edition : Option ℕ → Option Refusal
+refused_edition None = None
+refused_edition (Some number) = when (not (is_edition_number number)) (Broken (rule.B 10))
+
+-- why nobody is enrolled so: the actor, then the edition
+abbrev pub refused_enrolment : Agent → Option ℕ → Option Refusal
+refused_enrolment actor edition = option_or (refused_actor actor) (refused_edition edition)
+
 -- more idle seconds than a sweep may ask for: B6
 abbrev pub refused_idle : ℕ → Option Refusal
 refused_idle idle = when (nat_lt LONGEST_IDLE idle) (Broken (rule.B 6))
@@ -154,7 +163,7 @@ bad_form (Post statements) = refused_batch statements
 bad_form (write.State h key media bytes) = refused_document key.agent media bytes
 bad_form (Drop activity agent registration state) = refused_agent agent
 bad_form (write.Course tree) = refused_course (view tree)
-bad_form (Enrol course actor) = refused_actor actor
+bad_form (Enrol course actor edition) = refused_enrolment actor edition
 bad_form (write.Launch registration unit mode return_url) = None
 bad_form (Fetch key) = None
 bad_form (Waive registration unit reason) = None
@@ -177,10 +186,10 @@ abbrev pub unless_there : {A : Type 0} → Option A → Option Refusal
 unless_there None = Some NotFound
 unless_there (Some a) = None
 
--- What a write speaks of isn't there: the course of an enrolment, the registration or the unit of a launch or a waiver,
--- the key of a fetch, the session that is abandoned.
+-- What a write speaks of isn't there: the course of an enrolment or the edition of it that it names, the registration
+-- or the unit of a launch or a waiver, the key of a fetch, the session that is abandoned.
 abbrev pub missing : State → Write → Option Refusal
-missing st (Enrol course actor) = unless_there (index_of_course course st.courses)
+missing st (Enrol course actor edition) = unless_there (index_meant course edition st.courses st.editions)
 missing st (write.Launch registration unit mode return_url) = unless_there (target st registration unit)
 missing st (Fetch key) = unless_there (key_under key st.keys)
 missing st (Waive registration unit reason) = unless_there (target st registration unit)
@@ -201,16 +210,6 @@ unmergeable_with media bytes (Some held) = first_some (
 abbrev pub unmergeable : State → Write → Option Refusal
 unmergeable st (write.State how.Post key media bytes) = unmergeable_with media bytes (document_under key st.documents)
 unmergeable st other = None
-
--- ---- what a course meets in the store
-
--- another course is held under its id
-abbrev pub refused_beside : Course → Option Course → Option Refusal
-refused_beside course None = None
-refused_beside course (Some held) = when (not (same_course held course)) (CourseConflict (course_key course))
-
-abbrev pub course_conflict : State → Course → Option Refusal
-course_conflict st course = refused_beside course (course_under (course_key course) st.courses)
 
 -- ---- what statements meet in the store
 
@@ -256,7 +255,6 @@ abbrev pub conflict : State → Occasion → Write → Option Refusal
 conflict st at (Put id statement) =
     refused_under st (forbidden st at.by st.statements (view statement)) (Some id) (view statement)
 conflict st at (Post statements) = refused_in st at st.statements (with_ids_in at (Post statements))
-conflict st at (write.Course tree) = course_conflict st (course_of tree)
 conflict st at other = None
 
 -- ---- all of them

@@ -2,7 +2,8 @@
 ghost use Rattle.std.specs.Prelude.{◌≡◌, true};
 ghost use Rattle.std.specs.Option.{option_copied, option_map_or};
 ghost use Rattle.std.specs.Str.{bytes_eq};
-ghost use Rattle.lrs_history.specs.Refusals.{barred, refused_actor, refused_agent, refused_document, refused_idle, refused_name, refused_with};
+ghost use Rattle.lrs_history.specs.Refusals.{barred, refused_actor, refused_agent, refused_document, refused_edition};
+ghost use Rattle.lrs_history.specs.Refusals.{refused_enrolment, refused_idle, refused_name, refused_with};
 ghost use Rattle.lrs_history.specs.Sessions.{is_its_own, outside, over_state, overstepped};
 
 use cmi5_course::Launch;
@@ -12,7 +13,7 @@ use lrs_command::{Area, CONTENT_TOO_LARGE, NOT_FOUND, Who};
 use lrs_json::Text;
 use lrs_names::Id;
 use lrs_replies::Refusal;
-use lrs_rules::{LONGEST_IDLE, Rule};
+use lrs_rules::{LONGEST_IDLE, Rule, is_edition_number};
 use lrs_state::{is_learner, is_name};
 
 /// How many statements may come together.
@@ -91,14 +92,32 @@ pub fn refused_agent(agent: &Ifi) -> Option<Refusal>
     Some(Refusal::Broken(Rule::P(6)))
 }
 
-/// Why nobody is enrolled as that actor: it has no account (B3).
-pub fn refused_actor(actor: &Agent) -> Option<Refusal>
+/// Why nobody is enrolled so: the actor has no account (B3), or no edition can have that number (B10).
+pub fn refused_enrolment(actor: &Agent, edition: Option<u32>) -> Option<Refusal>
+    ensures { result ≡ refused_enrolment actor.now edition }
+{
+    match refused_actor(actor) {
+        Some(refusal) => Some(refusal),
+        None => refused_edition(edition),
+    }
+}
+
+fn refused_actor(actor: &Agent) -> Option<Refusal>
     ensures { result ≡ refused_actor actor.now }
 {
     if is_learner(actor) {
         return None;
     }
     Some(Refusal::Broken(Rule::B(3)))
+}
+
+fn refused_edition(edition: Option<u32>) -> Option<Refusal>
+    ensures { result ≡ refused_edition edition }
+{
+    if is_edition_number(edition?) {
+        return None;
+    }
+    Some(Refusal::Broken(Rule::B(10)))
 }
 
 /// Why nothing is swept that is idle for so many seconds (B6).

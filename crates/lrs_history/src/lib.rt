@@ -6,6 +6,6 @@
 mod admitting;
 
 pub use admitting::{
-    LONGEST_DOCUMENT, LONGEST_MEDIA, MOST_OF_BATCH, barred, outside, overstepped, refused_actor,
-    refused_agent, refused_document, refused_idle, refused_name, refused_with,
+    LONGEST_DOCUMENT, LONGEST_MEDIA, MOST_OF_BATCH, barred, outside, overstepped, refused_agent,
+    refused_document, refused_enrolment, refused_idle, refused_name, refused_with,
 };

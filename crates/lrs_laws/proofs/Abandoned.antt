@@ -125,7 +125,7 @@ silent st at gone (Put id statement) let_in free =
     ap (λ xs. add_each st.statements (with_owed st at at.supply xs)) (none_new st at gone (record { id = id; tree = statement } ∷ []) (met_put st at id statement free))
 silent st at gone (Post statements) let_in free =
     ap (λ xs. add_each st.statements (with_owed st at (supply_after at.supply statements) xs)) (none_new st at gone (with_ids at.supply statements) (met_post st at statements free))
-silent st at gone (Enrol course actor) let_in free = absurd (not_at_desk st at gone let_in)
+silent st at gone (Enrol course actor edition) let_in free = absurd (not_at_desk st at gone let_in)
 silent st at gone (write.Launch registration unit mode return_url) let_in free = absurd (not_at_desk st at gone let_in)
 silent st at gone (Fetch key) let_in free = of_fetch (λ (x : Effect). add_each st.statements x.statements ≡ st.statements) st at refl (key_under key st.keys) (λ told. refl) (λ held is unused still. refl)
 silent st at gone (Waive registration unit reason) let_in free = absurd (not_at_desk st at gone let_in)

@@ -52,7 +52,7 @@ said_unchanged st e none same =
     ∙ ap (λ b. when b (write_said (effect st e))) same
 
 -- the last of the reasons, where there is none before it
-last_reason : (before : List (Option Refusal)) (c : Option Refusal) → AllByRecursion (λ o. o ≡ None) before → first_some (before ++ c ∷ []) ≡ c
+pub last_reason : (before : List (Option Refusal)) (c : Option Refusal) → AllByRecursion (λ o. o ≡ None) before → first_some (before ++ c ∷ []) ≡ c
 last_reason [] None none = refl
 last_reason [] (Some r) none = refl
 last_reason (o ∷ before) c none = ap (λ p. option_or p (first_some (before ++ c ∷ []))) none.0 ∙ last_reason before c none.1

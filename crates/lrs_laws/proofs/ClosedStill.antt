@@ -15,7 +15,7 @@ use Rattle.lrs_history.specs.Sessions.{is_abandoned, is_closed, is_terminated}
 use Rattle.lrs_laws.proofs.Abandoned.{gone_after}
 use Rattle.lrs_laws.proofs.DeskKinds.{launched_by, of_ending, of_enrolment, of_fetch, of_launch, of_waiver}
 use Rattle.lrs_laws.proofs.Lists.{item_still}
-use Rattle.lrs_state.specs.Courses.{index_of_course}
+use Rattle.lrs_state.specs.Courses.{index_meant}
 use Rattle.lrs_state.specs.Launches.{index_of_session, key_under, launches_after, unchanged_launches}
 use Rattle.lrs_state.specs.Sessions.{as_abandoned, as_of, with_abandoned, with_changed, with_fetched, with_launched}
 use Rattle.lrs_state.specs.State.{State, apply}
@@ -46,8 +46,8 @@ abbrev pub MovesLaunches : State → Occasion → Effect → Type 0
 MovesLaunches st at x = BringsNone x ⊎ Begins st at x
 
 pub moves_launches : (st : State) (at : Occasion) (w : Write) → MovesLaunches st at (effect_of st at w)
-moves_launches st at (Enrol course actor) =
-    of_enrolment (MovesLaunches st at) st at (inl (record { launches = refl; begins_none = refl })) actor (index_of_course course st.courses) (λ k. inl (record { launches = refl; begins_none = refl }))
+moves_launches st at (Enrol course actor edition) =
+    of_enrolment (MovesLaunches st at) st at (inl (record { launches = refl; begins_none = refl })) actor (index_meant course edition st.courses st.editions) (λ k. inl (record { launches = refl; begins_none = refl }))
 moves_launches st at (write.Launch registration unit mode return_url) =
     of_launch (MovesLaunches st at) st at (inl (record { launches = refl; begins_none = refl })) mode return_url (target st registration unit)
     (λ t. inr (record { mode = mode; return_url = return_url; unit = t; is = refl }))

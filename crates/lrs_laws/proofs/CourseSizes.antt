@@ -9,11 +9,10 @@ use Rattle.std.proofs.lemmas.Bool.{false≢true, leb-true, or_cases}
 use Rattle.std.proofs.lemmas.List.{length-map}
 use Rattle.std.proofs.lemmas.List.Sums.{length-filter}
 use Rattle.cmi5_course.proofs.Unbroken.{form_unbroken, more_unbroken, nodes_unbroken}
-use Rattle.cmi5_course.specs.Courses.{Course, course_key, course_of, node_of, nodes_of}
+use Rattle.cmi5_course.specs.Courses.{course_of, node_of, nodes_of}
 use Rattle.cmi5_course.specs.SpelledNodes.{SpelledNode, nodes_from, nodes_in, nodes_of_children, nodes_of_items, nodes_under, spelled_node}
 use Rattle.cmi5_course.specs.Rules.{broken_rule, children_faults, content_faults, course_faults, form_faults, has_some_item, has_title, have_distinct_ids, id_faults, is_block, is_course, is_node, is_of_kind, is_unit, is_unit_node, is_within_limits, launch_faults, node_faults, nodes_faults, shared_faults, title_faults, unit_members}
 use Rattle.lrs_agents.proofs.AgentLemmas.{is_met, none_left, none_right}
-use Rattle.lrs_history.specs.DeskEffects.{new_course}
 use Rattle.lrs_history.specs.Effects.{effect}
 use Rattle.lrs_history.specs.History.{ComesNext, founds, is_operator, is_zero, state}
 use Rattle.lrs_history.specs.Occasions.{Occasion, occasion}
@@ -25,12 +24,12 @@ use Rattle.lrs_json.specs.declared.tree.Tree.{Tree}
 use Rattle.lrs_laws.proofs.Accepting.{accepted}
 use Rattle.lrs_laws.proofs.Again.{no_reason}
 use Rattle.lrs_laws.proofs.Counting.{many, many-append}
-use Rattle.lrs_laws.proofs.CourseLaws.{MovesCourses, moves_courses}
+use Rattle.lrs_laws.proofs.CourseLaws.{MovesCourses, edition_up, moves_courses}
 use Rattle.lrs_laws.proofs.Launched.{after_one}
 use Rattle.lrs_laws.proofs.Lists.{each_front, each_push}
 use Rattle.lrs_names.specs.Members.{faults_of_member, has_member, has_member_that, has_only}
 use Rattle.lrs_names.specs.Rules.{least, unless}
-use Rattle.lrs_state.specs.Courses.{course_under, courses_after}
+use Rattle.lrs_state.specs.Editions.{SeenEdition, editions_after}
 use Rattle.lrs_state.specs.State.{State}
 use Rattle.lrs_state.specs.declared.effect.Effect.{Effect}
 use Rattle.lrs_record.specs.Writes.{write_area}
@@ -238,17 +237,17 @@ few_nodes j none =
     few_from 0 None 0 17 j refl (all_stand all (nodes_unbroken j all refl none) (second_so (nat_le (count_by is_unit_node all) 1000) deep limits)) in
     omega (arith, units, same, few)
 
-abbrev pub IsNumbered : Course → Type 0
-IsNumbered course = length course.nodes < 2 ^ 32
-
-course_numbered : (tree : Tree) → broken_rule (view tree) ≡ None → IsNumbered (course_of tree)
+course_numbered : (tree : Tree) → broken_rule (view tree) ≡ None → length (course_of tree).nodes < 2 ^ 32
 unfolding nodes_of
 course_numbered tree none = subst (λ n. n < 2 ^ 32) (sym (length-map (nodes_in (view tree)) node_of)) (few_nodes (view tree) none)
 
 -- ---- those of a history
 
-abbrev pub AreNumbered : List Course → Type 0
-AreNumbered courses = AllByRecursion IsNumbered courses
+abbrev pub IsNumbered : SeenEdition → Type 0
+IsNumbered edition = length edition.course.nodes < 2 ^ 32
+
+abbrev pub AreNumbered : List SeenEdition → Type 0
+AreNumbered editions = AllByRecursion IsNumbered editions
 
 none_refused : (o : Option ℕ) → option_map (λ n. Broken (rule.K n)) o ≡ None → o ≡ None
 none_refused None is = refl
@@ -266,20 +265,15 @@ unbroken limit (first ∷ more) e next tree is =
     (accepted limit (first ∷ more) e next).free in
     none_refused (broken_rule (view tree)) (sym (ap bad_form is) ∙ free.1.0)
 
-numbered_with : (st : State) (w : Write) (x : Effect) → MovesCourses st w x → ((tree : Tree) → w ≡ write.Course tree → broken_rule (view tree) ≡ None) → AreNumbered st.courses
-    → AreNumbered (courses_after st.courses x.courses)
-numbered_with st w x (inl same) free each = subst (λ c. AreNumbered (courses_after st.courses c)) (sym same) each
-numbered_with st w x (inr takes) free each = subst (λ c. AreNumbered (courses_after st.courses c)) (sym takes.courses) (by_held (course_under (course_key course) st.courses))
-  where
-    course : Course
-    course = course_of takes.tree
-
-    by_held : (o : Option Course) → AreNumbered (courses_after st.courses (new_course course o))
-    by_held (Some held) = each
-    by_held None = each_push IsNumbered st.courses course each (course_numbered takes.tree (free takes.tree takes.write))
+numbered_with : (st : State) (w : Write) (x : Effect) → MovesCourses st w x → ((tree : Tree) → w ≡ write.Course tree → broken_rule (view tree) ≡ None) → AreNumbered st.editions
+    → AreNumbered (editions_after st.editions x.editions)
+numbered_with st w x (inl quiet) free each = subst (λ c. AreNumbered (editions_after st.editions c)) (sym quiet.editions) each
+numbered_with st w x (inr takes) free each =
+    subst (λ c. AreNumbered (editions_after st.editions c)) (sym takes.editions)
+    (each_push IsNumbered st.editions (edition_up st takes.tree) each (course_numbered takes.tree (free takes.tree takes.write)))
 
 -- those behind an entry are numbered where those before it are
-pub numbered_after : (limit : ℕ) (h : List Entry) (e : Entry) → ComesNext limit h e → AreNumbered (state h).courses → AreNumbered (state (h ++ e ∷ [])).courses
+pub numbered_after : (limit : ℕ) (h : List Entry) (e : Entry) → ComesNext limit h e → AreNumbered (state h).editions → AreNumbered (state (h ++ e ∷ [])).editions
 numbered_after limit h e next each =
-    subst (λ (su : State). AreNumbered su.courses) (sym (after_one h e))
+    subst (λ (su : State). AreNumbered su.editions) (sym (after_one h e))
     (numbered_with (state h) e.write (effect (state h) e) (moves_courses (state h) (occasion (state h) e) e.write) (unbroken limit h e next) each)

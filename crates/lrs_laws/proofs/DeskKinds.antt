@@ -26,9 +26,9 @@ abbrev pub launched_by : State → Occasion → Mode → Option (List ℕ) → T
 launched_by st at mode return_url t = launching_behind st at mode return_url t (open_of st t.registration.id (activity_at t))
 
 module _ (P : Effect → Type 0) (st : State) (at : Occasion) (none : P (no_change at.moment)) where
-  pub of_enrolment : (actor : Agent) (o : Option ℕ) → ((course : ℕ) → P (enrolling_as st at (record { id = at.supply 0; course = course; actor = actor }))) → P (enrolling st at actor o)
+  pub of_enrolment : (actor : Agent) (o : Option ℕ) → ((edition : ℕ) → P (enrolling_as st at (record { id = at.supply 0; edition = edition; actor = actor }))) → P (enrolling st at actor o)
   of_enrolment actor None each = none
-  of_enrolment actor (Some course) each = each course
+  of_enrolment actor (Some edition) each = each edition
 
   pub of_launch : (mode : Mode) (return_url : Option (List ℕ)) (o : Option Target) → ((t : Target) → P (launched_by st at mode return_url t)) → P (launching st at mode return_url o)
   of_launch mode return_url None each = none

@@ -90,7 +90,7 @@ satisfied_each verbs among e session indices = each_given (HasVerb verbs) (satis
   where
     one : (index : ℕ) → IfSome (satisfied_at e session index) (HasVerb verbs)
     one index =
-        all_mapped (HasVerb verbs) (satisfied_json e session index) (node_at index e.course)
+        all_mapped (HasVerb verbs) (satisfied_json e session index) (node_at index e.edition.course)
         (λ node. has_verb verbs (said_satisfied node.kind) e.registration.actor (activity_of_node (enrolment_of e) index) node.id e.registration.id session among)
 
 -- ---- what is owed
@@ -145,9 +145,9 @@ tells_nothing st moment = tells_deeds st (no_change moment) tt
 pub tells_enrolment : (st : State) (at : Occasion) (actor : Agent) (o : Option ℕ) → MakesIds at → TellsDeeds st (enrolling st at actor o)
 tells_enrolment st at actor o made = of_enrolment (TellsDeeds st) st at (tells_nothing st at.moment) actor o enrols
   where
-    enrols : (course : ℕ) → TellsDeeds st (enrolling st at actor (Some course))
-    enrols course =
-        let r : HeldRegistration = record { id = at.supply 0; course = course; actor = actor } in
+    enrols : (edition : ℕ) → TellsDeeds st (enrolling st at actor (Some edition))
+    enrols edition =
+        let r : HeldRegistration = record { id = at.supply 0; edition = edition; actor = actor } in
         let supply : Supply = rest_of (rest_of at.supply) in
         record {
           told = [];

@@ -22,7 +22,7 @@ use Rattle.lrs_laws.specs.Documents.{DocumentsAreFolds, HeldDocumentsAreShown, N
 use Rattle.lrs_laws.specs.Laws.{who_in}
 use Rattle.lrs_media.specs.Media.{is_json}
 use Rattle.lrs_names.specs.declared.draw.Draw.{Draw}
-use Rattle.lrs_state.specs.Courses.{index_of_course}
+use Rattle.lrs_state.specs.Courses.{index_meant}
 use Rattle.lrs_state.specs.Launches.{key_under, index_of_session}
 use Rattle.lrs_state.specs.State.{State, changes_nothing, no_change, nothing}
 use Rattle.lrs_state.specs.declared.effect.Effect.{Effect}
@@ -66,7 +66,7 @@ after_write st at (Drop activity agent registration chosen) key =
     choice : (b : Bool) → cond b None (document_under key st.documents) ≡ (if b then None else document_under key st.documents)
     choice true = refl
     choice false = refl
-after_write st at (Enrol course actor) key = of_enrolment (Leaves st key) st at refl actor (index_of_course course st.courses) (λ k. refl)
+after_write st at (Enrol course actor edition) key = of_enrolment (Leaves st key) st at refl actor (index_meant course edition st.courses st.editions) (λ k. refl)
 after_write st at (write.Launch registration unit mode return_url) key = launched (target st registration unit)
   where
     launched : (o : Option Target) → document_under key (documents_after st.documents (launching st at mode return_url o).documents) ≡ launched_over at key (document_under key st.documents) mode return_url o

@@ -19,6 +19,7 @@ pub mod Fetching
 pub mod SessionLaws
 pub mod OpenedSessions
 pub mod CourseLaws
+pub mod EditionLists
 pub mod KeyLaws
 pub mod LaunchLaws
 pub mod Permitted
@@ -43,3 +44,5 @@ pub mod Told
 pub mod ToldNext
 pub mod SatisfiedTold
 pub mod Refusals
+pub mod EditionLaws
+pub mod FormerLaws

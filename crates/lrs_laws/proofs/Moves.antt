@@ -7,7 +7,7 @@ use Rattle.lrs_history.specs.DeskEffects.{coming, giving}
 use Rattle.lrs_history.specs.Launches.{launch_at, target}
 use Rattle.lrs_history.specs.Sessions.{is_closed}
 use Rattle.lrs_laws.proofs.DeskKinds.{of_ending, of_enrolment, of_fetch, of_launch, of_waiver}
-use Rattle.lrs_state.specs.Courses.{index_of_course}
+use Rattle.lrs_state.specs.Courses.{index_meant}
 use Rattle.lrs_state.specs.Launches.{key_under, index_of_session, unchanged_keys, unchanged_launches, unchanged_tokens}
 use Rattle.lrs_state.specs.Providers.{unchanged_providers}
 use Rattle.lrs_state.specs.State.{State, no_change}
@@ -63,9 +63,9 @@ quiet st at w moment = inl (record { launches = refl; keys = refl; tokens = refl
 
 pub moves : (st : State) (at : Occasion) (w : Write) → Moves st at w (effect_of st at w)
 moves st at (Provider name) = inl (record { launches = refl; keys = refl; tokens = refl; providers = inr (record { name = name; providers = refl }) })
-moves st at (Enrol course actor) =
-    let w : Write = Enrol course actor in
-    of_enrolment (Moves st at w) st at (quiet st at w at.moment) actor (index_of_course course st.courses) (λ k. inl (record { launches = refl; keys = refl; tokens = refl; providers = inl refl }))
+moves st at (Enrol course actor edition) =
+    let w : Write = Enrol course actor edition in
+    of_enrolment (Moves st at w) st at (quiet st at w at.moment) actor (index_meant course edition st.courses st.editions) (λ k. inl (record { launches = refl; keys = refl; tokens = refl; providers = inl refl }))
 moves st at (write.Launch registration unit mode return_url) =
     let w : Write = write.Launch registration unit mode return_url in
     of_launch (Moves st at w) st at (quiet st at w at.moment) mode return_url (target st registration unit)

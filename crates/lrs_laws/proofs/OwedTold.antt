@@ -148,11 +148,11 @@ module _ (e : Enrolled) (is_id : IsId e.registration.id) (session : List ℕ) wh
       registered = registration_said (said_satisfied node.kind) e.registration.actor (own_name index) node.id e.registration.id session ∙ id_of-id_text e.registration.id is_id
 
   -- so of each of these nodes one statement says that it is satisfied
-  told_each : (supply : Supply) (moment index : ℕ) (ps : List ℕ) → index < length e.course.nodes → is_among index ps ≡ true
+  told_each : (supply : Supply) (moment index : ℕ) (ps : List ℕ) → index < length e.edition.course.nodes → is_among index ps ≡ true
       → list_any (says_so e.registration.id (own_name index)) (made_under supply moment (filter_map (satisfied_at e session) ps)) ≡ true
   told_each supply moment index [] less is = cc is
   told_each supply moment index (p ∷ ps) less is =
-      by_first (cases_eq p index) (node_at p e.course) refl (λ other later. told_each later moment index ps less (among_rest index p ps other is))
+      by_first (cases_eq p index) (node_at p e.edition.course) refl (λ other later. told_each later moment index ps less (among_rest index p ps other is))
     where
       rest : List Json
       rest = filter_map (satisfied_at e session) ps
@@ -160,11 +160,11 @@ module _ (e : Enrolled) (is_id : IsId e.registration.id) (session : List ℕ) wh
       so : StoredStatement → Bool
       so = says_so e.registration.id (own_name index)
 
-      by_first : (p ≡ index) ⊎ (p ≡ index → ⊥) → (o : Option Node) → node_at p e.course ≡ o → ((p ≡ index → ⊥) → (later : Supply) → list_any so (made_under later moment rest) ≡ true)
+      by_first : (p ≡ index) ⊎ (p ≡ index → ⊥) → (o : Option Node) → node_at p e.edition.course ≡ o → ((p ≡ index → ⊥) → (later : Supply) → list_any so (made_under later moment rest) ≡ true)
           → list_any so (made_under supply moment (cons_option (option_map (satisfied_json e session p) o) rest)) ≡ true
       by_first (inl same) None there later =
-          let found = item_there e.course.nodes index less in
-          let missing : Some found.0 ≡ None = sym found.1 ∙ (ap (λ n. node_at n e.course) (sym same) ∙ there) in
+          let found = item_there e.edition.course.nodes index less in
+          let missing : Some found.0 ≡ None = sym found.1 ∙ (ap (λ n. node_at n e.edition.course) (sym same) ∙ there) in
           cc missing
       by_first (inl same) (Some node) there later =
           ap (λ b. b || list_any so (made_under (rest_of supply) moment rest))
@@ -181,7 +181,7 @@ module _ (e : Enrolled) (is_id : IsId e.registration.id) (session : List ℕ) wh
 
   -- ---- behind what is owed
 
-  pub settled_told : (supply : Supply) (moment n : ℕ) (all : List StoredStatement) → length e.course.nodes ≤ n → AreFresh all supply n
+  pub settled_told : (supply : Supply) (moment n : ℕ) (all : List StoredStatement) → length e.edition.course.nodes ≤ n → AreFresh all supply n
       → IsSettled (enrolment_of e) (add_each all (made_under supply moment (filter_map (satisfied_at e session) (owed (enrolment_of e) all))))
   settled_told supply moment n all fits fresh index less =
       false_from_ne_true (is_owed (enrolment_of e) (add_each all made) index) (λ is. true≢false (sym (said is) ∙ unsaid is))
@@ -210,7 +210,7 @@ module _ (e : Enrolled) (is_id : IsId e.registration.id) (session : List ℕ) wh
       unsaid : is_owed (enrolment_of e) (add_each all made) index ≡ true → told (add_each all made) ≡ false
       unsaid is =
           not-true (told (add_each all made))
-          (second_so (not (is_unit_in e.course.nodes index) && is_satisfied (enrolment_of e) (add_each all made) index) (not (told (add_each all made))) is)
+          (second_so (not (is_unit_in e.edition.course.nodes index) && is_satisfied (enrolment_of e) (add_each all made) index) (not (told (add_each all made))) is)
 
       said : is_owed (enrolment_of e) (add_each all made) index ≡ true → told (add_each all made) ≡ true
       said is =

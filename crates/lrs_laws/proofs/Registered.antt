@@ -1,11 +1,11 @@
--- The ids of registrations can be read again from their texts, and what is known of a registration with its course.
+-- The ids of registrations can be read again from their texts, and what is known of a registration with its edition.
 use Rattle.std.proofs.Common.{◌≡◌, ◌⊎◌, inl, inr, ℕ, zero, suc, ◌+◌, ◌%◌, ◌<◌, List, ◌∷◌, length, Option, Some, None, IfSome, refl, sym, ap, subst}
 use Rattle.std.specs.Prelude.{option_and_then, option_map, slice_get}
 use Rattle.std.specs.Int.{bytes_high_first}
 use Rattle.std.specs.List.{AllByRecursion}
 use Rattle.std.specs.Str.{bytes_eq}
 use Rattle.std.proofs.lemmas.List.Elements.{All-from_get_or}
-use Rattle.cmi5_course.specs.Courses.{Course, index_of_unit, unit_at}
+use Rattle.cmi5_course.specs.Courses.{index_of_unit, unit_at}
 use Rattle.cmi5_course.specs.Units.{AssignableUnit}
 use Rattle.lrs_history.specs.DeskEffects.{coming}
 use Rattle.lrs_history.specs.Effects.{effect, effect_of}
@@ -20,7 +20,8 @@ use Rattle.lrs_laws.proofs.Lists.{all_mapped, all_then, each_found, each_push}
 use Rattle.lrs_names.proofs.WordBytes.{small_word_bytes}
 use Rattle.lrs_names.specs.Ids.{IsId, bits_of, id_of_word}
 use Rattle.lrs_names.specs.declared.id.TheConstants.{WORDS}
-use Rattle.lrs_state.specs.Courses.{index_of_course}
+use Rattle.lrs_state.specs.Courses.{index_meant}
+use Rattle.lrs_state.specs.Editions.{SeenEdition}
 use Rattle.lrs_state.specs.Launches.{key_under, index_of_session}
 use Rattle.lrs_state.specs.Registrations.{registration_under, registrations_after, unchanged_registrations}
 use Rattle.lrs_state.specs.State.{State, used_in}
@@ -69,9 +70,9 @@ abbrev MovesRegistrations : Occasion → Effect → Type 0
 MovesRegistrations at x = (x.registrations ≡ unchanged_registrations) ⊎ Enrols at x
 
 moves_registrations : (st : State) (at : Occasion) (w : Write) → MovesRegistrations at (effect_of st at w)
-moves_registrations st at (Enrol course actor) =
-    of_enrolment (MovesRegistrations at) st at (inl refl) actor (index_of_course course st.courses)
-    (λ k. inr (record { registration = record { id = at.supply 0; course = k; actor = actor }; id = refl; registrations = refl }))
+moves_registrations st at (Enrol course actor edition) =
+    of_enrolment (MovesRegistrations at) st at (inl refl) actor (index_meant course edition st.courses st.editions)
+    (λ k. inr (record { registration = record { id = at.supply 0; edition = k; actor = actor }; id = refl; registrations = refl }))
 moves_registrations st at (write.Launch registration unit mode return_url) = of_launch (MovesRegistrations at) st at (inl refl) mode return_url (target st registration unit) (λ t. inl refl)
 moves_registrations st at (Fetch name) = of_fetch (MovesRegistrations at) st at (inl refl) (key_under name st.keys) (λ told. inl refl) (λ key is unused still. inl refl)
 moves_registrations st at (Waive registration unit reason) = of_waiver (MovesRegistrations at) st at (inl refl) reason (target st registration unit) (λ t is. inl refl)
@@ -107,33 +108,33 @@ target_id st registration publisher t each is = subst (λ o. IfSome o HasId) is 
     by_registration : (founding : Founding) (o : Option HeldRegistration) → registration_under registration st.registrations ≡ o → IfSome (option_and_then (λ r. target_of st publisher r founding) o) HasId
     by_registration founding None found = tt
     by_registration founding (Some r) found =
-        all_then HasId (target_in founding.base r publisher) (slice_get st.courses r.course)
-        (λ course. all_then HasId (target_at founding.base r publisher course) (index_of_unit publisher course)
-        (λ index. all_mapped HasId (target_with founding.base r publisher index) (unit_at index course) (λ unit. found_id st registration r each found)))
+        all_then HasId (λ (e : SeenEdition). target_in founding.base r publisher e.course) (slice_get st.editions r.edition)
+        (λ e. all_then HasId (target_at founding.base r publisher e.course) (index_of_unit publisher e.course)
+        (λ index. all_mapped HasId (target_with founding.base r publisher index) (unit_at index e.course) (λ unit. found_id st registration r each found)))
 
     all : IfSome (target st registration publisher) HasId
     all = all_then HasId (target_under st registration publisher) st.founding (λ founding. by_registration founding (registration_under registration st.registrations) refl)
 
--- ---- registrations with their courses
+-- ---- registrations with their editions
 
 -- what is known of one, if there is one
 abbrev pub IsEnrolled : State → Option Enrolled → Type 0
 IsEnrolled st None = Unit {0}
-IsEnrolled st (Some e) = IsId e.registration.id × (slice_get st.courses e.registration.course ≡ Some e.course)
+IsEnrolled st (Some e) = IsId e.registration.id × (slice_get st.editions e.registration.edition ≡ Some e.edition)
 
-abbrev enrolled_with : Founding → HeldRegistration → Course → Enrolled
-enrolled_with founding r course = record { base = founding.base; registration = r; course = course }
+abbrev enrolled_with : Founding → HeldRegistration → SeenEdition → Enrolled
+enrolled_with founding r edition = record { base = founding.base; registration = r; edition = edition }
 
 pub is_enrolled_as : (st : State) (r : HeldRegistration) → IsId r.id → IsEnrolled st (enrolled_as st r)
 is_enrolled_as st r is = by_founding st.founding
   where
-    by_course : (founding : Founding) (o : Option Course) → slice_get st.courses r.course ≡ o → IsEnrolled st (option_map (enrolled_with founding r) o)
-    by_course founding None found = tt
-    by_course founding (Some course) found = (is, found)
+    by_edition : (founding : Founding) (o : Option SeenEdition) → slice_get st.editions r.edition ≡ o → IsEnrolled st (option_map (enrolled_with founding r) o)
+    by_edition founding None found = tt
+    by_edition founding (Some edition) found = (is, found)
 
     by_founding : (o : Option Founding) → IsEnrolled st (option_and_then (enrolled_from st r) o)
     by_founding None = tt
-    by_founding (Some founding) = by_course founding (slice_get st.courses r.course) refl
+    by_founding (Some founding) = by_edition founding (slice_get st.editions r.edition) refl
 
 pub is_enrolled : (st : State) (id : List ℕ) → AreIds st.registrations → IsEnrolled st (enrolled st id)
 is_enrolled st id each = by_registration (registration_under id st.registrations) refl

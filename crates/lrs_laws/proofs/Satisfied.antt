@@ -160,7 +160,7 @@ module _ (e : Enrolled) (is_id : IsId e.registration.id) (session registration a
   said_of_nodes : (supply : Supply) (moment : ℕ) (indices : List ℕ)
       → many (says_so registration activity) (made_under supply moment (filter_map (satisfied_at e session) indices)) ≤ many is_it indices
   said_of_nodes supply moment [] = let none : 0 ≤ 0 = omega arith in none
-  said_of_nodes supply moment (index ∷ indices) = by_node (node_at index e.course) (λ later. said_of_nodes later moment indices)
+  said_of_nodes supply moment (index ∷ indices) = by_node (node_at index e.edition.course) (λ later. said_of_nodes later moment indices)
     where
       rest : List Json
       rest = filter_map (satisfied_at e session) indices
@@ -185,7 +185,7 @@ none_said registration activity all (s ∷ ss) none = (
   none_said registration activity all ss (right_false (counts_among true all registration activity satisfied s) (list_any (counts_among true all registration activity satisfied) ss) none),
 )
 
-kept_by_owed : (registration activity : List ℕ) (st : State) → AreNumbered st.courses → KeptByOwed st (AtMostOnce registration activity)
+kept_by_owed : (registration activity : List ℕ) (st : State) → AreNumbered st.editions → KeptByOwed st (AtMostOnce registration activity)
 kept_by_owed registration activity st numbered new owed owes once =
     subst (λ xs. AtMostOnce registration activity (add_each (add_each st.statements new) xs)) (sym owes.are) (by_whose owes.whose owes.known)
   where
@@ -207,7 +207,7 @@ kept_by_owed registration activity st numbered new owed owes once =
     by_whose : (o : Option Enrolled) → IsEnrolled st o → AtMostOnce registration activity (add_each (add_each st.statements new) (owed_made st owes.session owes.supply owes.moment new o))
     by_whose None known = once
     by_whose (Some e) known =
-        let few : length e.course.nodes < 2 ^ 32 = each_at IsNumbered st.courses e.registration.course e.course numbered known.1 in
+        let few : length e.edition.course.nodes < 2 ^ 32 = each_at IsNumbered st.editions e.registration.edition e.edition numbered known.1 in
         added (made_under owes.supply owes.moment (owed_jsons st owes.session new e)) (many (is_that_node (enrolment_of e) registration activity) (owed_behind st new e))
         (said_of_nodes e known.0 owes.session registration activity owes.supply owes.moment (owed_behind st new e)) (owed_once (enrolment_of e) (st.statements ++ new) registration activity few)
 
@@ -215,7 +215,7 @@ kept_by_owed registration activity st numbered new owed owes once =
 
 -- over a history whose courses are numbered, which each of its entries keeps
 abbrev OnceAfter : List ℕ → List ℕ → List Entry → Type 0
-OnceAfter registration activity h = AreNumbered (state h).courses × AtMostOnce registration activity (state h).statements
+OnceAfter registration activity h = AreNumbered (state h).editions × AtMostOnce registration activity (state h).statements
 
 pub satisfied_once : SatisfiedOnce
 satisfied_once limit h registration activity legal =

@@ -19,7 +19,7 @@ use Rattle.lrs_laws.proofs.Again.{no_reason}
 use Rattle.lrs_laws.proofs.Counting.{many}
 use Rattle.lrs_laws.proofs.CourseLaws.{MovesCourses, moves_courses}
 use Rattle.lrs_laws.proofs.CourseSizes.{AreNumbered, IsNumbered, numbered_after}
-use Rattle.lrs_laws.proofs.EnrolledStill.{Enrols, HasCourse, HaveCourses, Registers, enrols, have_courses_after, its_id, known_before, known_or_new, registered_course, registration_at, used_more}
+use Rattle.lrs_laws.proofs.EnrolledStill.{Enrols, HasEdition, HaveEditions, Registers, enrols, have_editions_after, its_id, known_before, known_or_new, registered_edition, registration_at, used_more}
 use Rattle.lrs_laws.proofs.FreshIds.{AreFresh}
 use Rattle.lrs_laws.proofs.Launched.{after_one}
 use Rattle.lrs_laws.proofs.Lists.{each_at}
@@ -51,15 +51,15 @@ abbrev TellsAll : State → Type 0
 TellsAll st = (used_in st).count < 2 ^ 121 → (id : List ℕ) (e : Enrolled) → enrolled st id ≡ Some e → IsSettled (enrolment_of e) st.statements
 
 record IsTold (st : State) : Type 0 where
-  pub numbered : AreNumbered st.courses
-  pub courses : HaveCourses st
+  pub numbered : AreNumbered st.editions
+  pub editions : HaveEditions st
   pub told : TellsAll st
 
 -- such as one without registrations
-none_registered : (st : State) → AreNumbered st.courses → st.registrations ≡ [] → IsTold st
+none_registered : (st : State) → AreNumbered st.editions → st.registrations ≡ [] → IsTold st
 none_registered st numbered none = record {
   numbered = numbered;
-  courses = subst (λ rs. AllByRecursion (HasCourse st) rs) (sym none) tt;
+  editions = subst (λ rs. AllByRecursion (HasEdition st) rs) (sym none) tt;
   told = λ small id e known.
       let missing : None ≡ Some e = sym (ap (λ rs. option_and_then (enrolled_as st) (registration_under id rs)) none) ∙ known in
       cc missing;
@@ -78,17 +78,17 @@ settles st is ids small id e known =
       known = known;
       is_id = there.0;
       own = its_id st id e known;
-      numbered = each_at IsNumbered st.courses e.registration.course e.course is.numbered there.1;
+      numbered = each_at IsNumbered st.editions e.registration.edition e.edition is.numbered there.1;
       settled = is.told small id e known;
     }
 
 -- a registration that comes is told what it owes at once
-settled_new : (st : State) (en : Entry) → AreNumbered st.courses → (used_in st).count < 2 ^ 121 → (registers : Registers st (occasion st en) en.write (effect st en)) (e : Enrolled)
+settled_new : (st : State) (en : Entry) → AreNumbered st.editions → (used_in st).count < 2 ^ 121 → (registers : Registers st (occasion st en) en.write (effect st en)) (e : Enrolled)
     → enrolled_as st (registration_at (occasion st en) registers.number registers.actor) ≡ Some e → IsSettled (enrolment_of e) (add_each st.statements (effect st en).statements)
 settled_new st en numbered small registers e known =
     subst (λ (x : Effect). IsSettled (enrolment_of e) (add_each st.statements x.statements)) (sym registers.is)
     (subst (λ o. IsSettled (enrolment_of e) (add_each st.statements (owed_made st (at.supply 1) left at.moment [] o))) (sym known)
-    (settled_own st (at.supply 1) left at.moment [] e there.0 (each_at IsNumbered st.courses e.registration.course e.course numbered there.1) (sym (append-nil st.statements))
+    (settled_own st (at.supply 1) left at.moment [] e there.0 (each_at IsNumbered st.editions e.registration.edition e.edition numbered there.1) (sym (append-nil st.statements))
     (subst (λ l. AreFresh l left (2 ^ 32)) (sym (append-nil st.statements)) fresh)))
   where
     at : Occasion
@@ -127,14 +127,14 @@ tells_all st en founding is_founded is ids formed free small id e now = by_kind 
         settled_next st (who_is st en.caller) en.moment (token_text st.length en.draw.secret) en.draw few ids id e (settles st is ids few id e known) en.write (makes_ids st en) formed free
 
     by_kind : Enrols st at en.write (effect st en) → IsSettled (enrolment_of e) (add_each st.statements (effect st en).statements)
-    by_kind (inl same) = known_one (known_before st en.write (effect st en) id e moves is.courses same now)
-    by_kind (inr registers) = by_known (known_or_new st en.write (effect st en) id e r moves is.courses new comes now)
+    by_kind (inl same) = known_one (known_before st en.write (effect st en) id e moves is.editions same now)
+    by_kind (inr registers) = by_known (known_or_new st en.write (effect st en) id e r moves is.editions new comes now)
       where
         r : HeldRegistration
         r = registration_at at registers.number registers.actor
 
-        new : HasCourse st r
-        new = registered_course st founding r registers.course is_founded registers.held
+        new : HasEdition st r
+        new = registered_edition st founding r registers.edition is_founded registers.held
 
         comes : registrations_after st.registrations (effect st en).registrations ≡ st.registrations ++ r ∷ []
         comes = ap (λ (x : Effect). registrations_after st.registrations x.registrations) registers.is
@@ -167,8 +167,8 @@ told_next limit (first ∷ more) en next so_far =
     let founding = so_far.0 in (
       (founding.0, ap (λ (su : State). su.founding) (after_one h en) ∙ ap (λ o. founding_after o (effect st en).founding) founding.1),
       subst IsTold (sym (after_one h en)) (record {
-        numbered = subst (λ (su : State). AreNumbered su.courses) (after_one h en) (numbered_after limit h en next so_far.1.numbered);
-        courses = have_courses_after st at en.write (effect st en) founding.0 founding.1 (moves_courses st at en.write) (enrols st at en.write) so_far.1.courses;
+        numbered = subst (λ (su : State). AreNumbered su.editions) (after_one h en) (numbered_after limit h en next so_far.1.numbered);
+        editions = have_editions_after st at en.write (effect st en) founding.0 founding.1 (moves_courses st at en.write) (enrols st at en.write) so_far.1.editions;
         told = tells_all st en founding.0 founding.1 so_far.1 (all_ids h) reasons.1.0 reasons.1.1.1.1.1.0;
       }),
     )
@@ -198,7 +198,7 @@ satisfied_are_told limit h registration e index legal small known is =
     let s : SeenEnrolment = enrolment_of e in
     let start : IsToldAfter [] = (tt, none_registered nothing tt refl) in
     let told = over_entries limit IsToldAfter start (told_next limit) h legal in
-    let verdict = verdict_at (is_satisfied s st.statements) 0 (length e.course.nodes) index true is.satisfied in
+    let verdict = verdict_at (is_satisfied s st.statements) 0 (length e.edition.course.nodes) index true is.satisfied in
     let there : 0 + index ≡ index = omega arith in
     let holds : is_satisfied s st.statements index ≡ true = subst (λ i. is_satisfied s st.statements i ≡ true) there verdict.1 in
     let few : (used_in st).count < 2 ^ 121 = omega (arith, small) in
@@ -206,8 +206,8 @@ satisfied_are_told limit h registration e index legal small known is =
     let name : List ℕ = activity_of_node s index in
     let said : was_said st.statements e.registration.id name satisfied ≡ true =
     true_from_ne_false (was_said st.statements e.registration.id name satisfied)
-    (λ never. true≢false (sym (and_from (not (is_unit_in e.course.nodes index) && is_satisfied s st.statements index) (not (was_said st.statements e.registration.id name satisfied))
-    (and_from (not (is_unit_in e.course.nodes index)) (is_satisfied s st.statements index) (ap (λ b. not b) is.holder) holds) (ap (λ b. not b) never)) ∙ settled)) in
+    (λ never. true≢false (sym (and_from (not (is_unit_in e.edition.course.nodes index) && is_satisfied s st.statements index) (not (was_said st.statements e.registration.id name satisfied))
+    (and_from (not (is_unit_in e.edition.course.nodes index)) (is_satisfied s st.statements index) (ap (λ b. not b) is.holder) holds) (ap (λ b. not b) never)) ∙ settled)) in
     let one : 1 ≤ many (says_so e.registration.id name) st.statements =
     some_many (says_so e.registration.id name) st.statements
     (any_weaker (counts_among true st.statements e.registration.id name satisfied) (says_so e.registration.id name) (λ x so. first_so (says_so e.registration.id name x) true so) st.statements said) in

@@ -35,7 +35,7 @@ pub record Settles (st : State) (id : List ℕ) (e : Enrolled) : Type 0 where
   pub known : enrolled st id ≡ Some e
   pub is_id : IsId e.registration.id
   pub own : e.registration.id ≡ id
-  pub numbered : IsNumbered e.course
+  pub numbered : IsNumbered e.edition
   pub settled : IsSettled (enrolment_of e) st.statements
 
 -- what is owed of another registration tells of no progress
@@ -45,12 +45,12 @@ none_owed st session supply moment new None known registration = tt
 none_owed st session supply moment new (Some e) known registration = none_told_of e known.0 session supply moment (owed_behind st new e) registration
 
 -- what is owed behind new statements settles their registration
-pub settled_own : (st : State) (session : List ℕ) (supply : Supply) (moment : ℕ) (new : List StoredStatement) (e : Enrolled) → IsId e.registration.id → IsNumbered e.course
+pub settled_own : (st : State) (session : List ℕ) (supply : Supply) (moment : ℕ) (new : List StoredStatement) (e : Enrolled) → IsId e.registration.id → IsNumbered e.edition
     → add_each st.statements new ≡ st.statements ++ new → AreFresh (st.statements ++ new) supply (2 ^ 32)
     → IsSettled (enrolment_of e) (add_each st.statements (new ++ owed_made st session supply moment new (Some e)))
 settled_own st session supply moment new e is_id numbered added fresh =
     let made : List StoredStatement = owed_made st session supply moment new (Some e) in
-    let fits : length e.course.nodes ≤ 2 ^ 32 = omega (arith, numbered) in
+    let fits : length e.edition.course.nodes ≤ 2 ^ 32 = omega (arith, numbered) in
     subst (λ l. IsSettled (enrolment_of e) l) (sym (add_each-append st.statements new made ∙ ap (λ l. add_each l made) added))
     (settled_told e is_id session supply moment (2 ^ 32) (st.statements ++ new) fits fresh)
 

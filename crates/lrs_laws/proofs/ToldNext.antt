@@ -44,7 +44,7 @@ use Rattle.lrs_names.specs.declared.draw.Draw.{Draw}
 use Rattle.lrs_names.specs.declared.id.TheConstants.{WORDS}
 use Rattle.lrs_replies.specs.declared.answered.Refusal.TheVariants.{Broken, TooLong}
 use Rattle.lrs_rules.specs.declared.rule.Rule.TheVariants as rule
-use Rattle.lrs_state.specs.Courses.{index_of_course}
+use Rattle.lrs_state.specs.Courses.{index_meant}
 use Rattle.lrs_state.specs.Launches.{index_of_session, key_under}
 use Rattle.lrs_state.specs.State.{State, used_in}
 use Rattle.lrs_state.specs.declared.effect.Effect.{Effect}
@@ -175,8 +175,8 @@ module _ (st : State) (by : Who) (moment : ℕ) (token : List ℕ) (draw : Draw)
       settled_by_caller st (at_write (Post ts)) id e before ids (supply_after supply ts) (with_ids supply ts) (met_post st (at_write (Post ts)) ts free)
       (batch_distinct st draw.name ts room formed)
       (unused_behind st ((used_in st).count + length (given_ids ts)) (draw.name % WORDS) ts (2 ^ 32) (omega arith, omega (arith, small, few, given_missing ts)))
-  settled_next (Enrol course actor) made formed free =
-      of_enrolment StaysSettled st (at_write (Enrol course actor)) before.settled actor (index_of_course course st.courses) (λ number. by_enrolment (at_write (Enrol course actor)) made number actor)
+  settled_next (Enrol course actor edition) made formed free =
+      of_enrolment StaysSettled st (at_write (Enrol course actor edition)) before.settled actor (index_meant course edition st.courses st.editions) (λ number. by_enrolment (at_write (Enrol course actor edition)) made number actor)
   settled_next (write.Launch registration unit mode return_url) made formed free =
       let at : Occasion = at_write (write.Launch registration unit mode return_url) in
       of_launch StaysSettled st at before.settled mode return_url (target st registration unit) (λ t. by_launch at refl mode return_url t)

@@ -33,7 +33,7 @@ use Rattle.lrs_laws.proofs.Lists.{each_append, each_weaker}
 use Rattle.lrs_laws.proofs.Permitted.{permitted, when_none}
 use Rattle.lrs_laws.proofs.Registered.{AreIds, MakesIds, all_ids, makes_ids}
 use Rattle.lrs_names.specs.Members.{is_one_of}
-use Rattle.lrs_state.specs.Courses.{index_of_course}
+use Rattle.lrs_state.specs.Courses.{index_meant}
 use Rattle.lrs_state.specs.Launches.{key_under, index_of_session}
 use Rattle.lrs_state.specs.State.{State, nothing}
 use Rattle.lrs_state.specs.declared.effect.Effect.{Effect}
@@ -143,8 +143,8 @@ module _ (Q : List StoredStatement → Type 0) (writes : KeptByWrites Q) (deed :
   pub kept_by_entry : (w : Write) → AreIds st.registrations → MakesIds at → conflict st at w ≡ None → Q (add_each st.statements (effect_of st at w).statements)
   kept_by_entry (Put id statement) ids made free = kept_by_caller at.supply (record { id = id; tree = statement } ∷ []) ids (met_put st at id statement free)
   kept_by_entry (Post statements) ids made free = kept_by_caller (supply_after at.supply statements) (with_ids at.supply statements) ids (met_post st at statements free)
-  kept_by_entry (Enrol course actor) ids made free =
-      kept_by_store (enrolling st at actor (index_of_course course st.courses)) (tells_enrolment st at actor (index_of_course course st.courses) made)
+  kept_by_entry (Enrol course actor edition) ids made free =
+      kept_by_store (enrolling st at actor (index_meant course edition st.courses st.editions)) (tells_enrolment st at actor (index_meant course edition st.courses st.editions) made)
   kept_by_entry (write.Launch registration unit mode return_url) ids made free =
       kept_by_store (launching st at mode return_url (target st registration unit)) (tells_launch st at mode return_url (target st registration unit))
   kept_by_entry (Fetch key) ids made free = kept_by_store (fetching st at (key_under key st.keys)) (tells_fetch st at (key_under key st.keys))

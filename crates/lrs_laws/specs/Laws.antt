@@ -3,7 +3,6 @@
 use Rattle.std.specs.Prelude.{◌≡◌, ◌≢◌, ◌<◌, ◌≤◌, ◌+◌, ◌^◌, ◌==◌, ℕ, List, [], ◌∷◌, ◌++◌, length, map, take, Option}
 use Rattle.std.specs.Prelude.{Some, None, MatchOption, true, false, IsTrue}
 use Rattle.std.specs.List.{AllByRecursion, IsDistinct}
-use Rattle.cmi5_course.specs.Courses.{course_key}
 use Rattle.lrs_record.specs.declared.entry.Area.{Area}
 use Rattle.lrs_record.specs.declared.entry.Area.TheVariants.{Store}
 use Rattle.lrs_command.specs.declared.command.Command.{Command}
@@ -116,10 +115,6 @@ StrangersAreToldAlike =
 -- no two statements have one id
 abbrev pub NamesOne : Type 0
 NamesOne = (h : List Entry) → IsTrue (are_distinct (ids_of (state h).statements))
-
--- no two courses have one id
-abbrev pub CoursesNameOne : Type 0
-CoursesNameOne = (h : List Entry) → IsTrue (are_distinct (map course_key (state h).courses))
 
 -- what an id names, it names after every further entry
 abbrev pub NamesForGood : Type 0

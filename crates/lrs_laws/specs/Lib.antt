@@ -1,4 +1,6 @@
 pub mod Laws
+pub mod Editions
+pub mod Former
 pub mod Documents
 pub mod Fetches
 pub mod Sessions

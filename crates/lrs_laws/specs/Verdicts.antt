@@ -26,7 +26,7 @@ SatisfiedOnce =
 -- The node of that number is the course itself or a block, and is satisfied: so whoever asks about the registration is
 -- shown it.
 pub record IsSatisfiedHolder (h : List Entry) (e : Enrolled) (index : ℕ) : Type 0 where
-  pub holder : is_unit_in e.course.nodes index ≡ false
+  pub holder : is_unit_in e.edition.course.nodes index ≡ false
   pub satisfied : slice_get (verdicts_of (state h) e) index ≡ Some true
 
 -- Fewer than half of the ids that can be made are in use.

@@ -1,21 +1,23 @@
 ghost use Rattle.lrs_laws.specs.Documents.{DocumentsAreFolds, HeldDocumentsAreShown, IdsTellDocuments, MergedIsRead, NothingIsDroppedQuietly, PostedDocumentsAreMerged, UnmergeableIsTold};
+ghost use Rattle.lrs_laws.specs.Editions.{CoursesAreEditions, CoursesCountEditions, CoursesNameOne, EditionsAreFound};
+ghost use Rattle.lrs_laws.specs.Editions.{EditionsAreNumbered, EditionsStay, NewestIsLast, RegistrationsKeepTheirEdition};
 ghost use Rattle.lrs_laws.specs.Fetches.{FetchesGive, KeysGiveOnce, UsedKeysAreTold};
-ghost use Rattle.lrs_laws.specs.Laws.{BatchConflictsAreTold, BatchesAreWhole, CallersHaveAuthority, CallersStayLetIn, ConflictsAreTold, CoursesNameOne, DeskIdsAreNew, FirstPagesAreTold, LinksGoOn, LinksStay, LinksWhereMoreComes, MadeIdsAreNew, NamesForGood, NamesOne, PagesEnd, PagesGiveTheList, PositionsComeOnce, PutsAreHeld, RepeatedBatchesAreTaken, RepeatsAreTaken, StaysVoided, StrangersAreToldAlike};
+ghost use Rattle.lrs_laws.specs.Former.{FormerHistoriesAreLegal, FormerHistoriesAreMovable};
+ghost use Rattle.lrs_laws.specs.Laws.{BatchConflictsAreTold, BatchesAreWhole, CallersHaveAuthority, CallersStayLetIn, ConflictsAreTold, DeskIdsAreNew, FirstPagesAreTold, LinksGoOn, LinksStay, LinksWhereMoreComes, MadeIdsAreNew, NamesForGood, NamesOne, PagesEnd, PagesGiveTheList, PositionsComeOnce, PutsAreHeld, RepeatedBatchesAreTaken, RepeatsAreTaken, StaysVoided, StrangersAreToldAlike};
 ghost use Rattle.lrs_laws.specs.Refusals.{RefusedMakesNoEntry, StatusesTellRefusals};
 ghost use Rattle.lrs_laws.specs.Sessions.{GivenTokensAct, KeysAreTheirLaunches, LaunchesLeaveStatements, OneSessionIsOpen, OtherTokensAreUnknown, SessionTokensWereGiven, SessionsAreBarredFromTheDesk, SessionsAreLaunched, SessionsKeepLaunchData, SessionsKeepToTheirDocuments, SessionsSeeTheirRegistration};
 ghost use Rattle.lrs_laws.specs.Speaking.{AbandonedSessionsAreSilent, ResultsCountOnce, SessionsSpeakInOrder};
 ghost use Rattle.lrs_laws.specs.Verdicts.{SatisfiedAreTold, SatisfiedOnce};
 
 /// Over every history whoever is let in has an authority, and stays let in after every further entry. Who isn't let in
-/// is told the same whatever it asks. An id names one statement, for good, no two courses have one, and what is voided
-/// stays so. A repeat makes no entry, and another statement under the id is told it, alone and in a batch. Made ids are
-/// new, what isn't refused is held, and a batch is kept whole.
+/// is told the same whatever it asks. An id names one statement, for good, and what is voided stays so. A repeat makes
+/// no entry, and another statement under the id is told it, alone and in a batch. Made ids are new, what isn't refused
+/// is held, and a batch is kept whole.
 pub fn law_of_names()
     ensures authority { CallersHaveAuthority }
     ensures stay { CallersStayLetIn }
     ensures strangers { StrangersAreToldAlike }
     ensures one { NamesOne }
-    ensures courses { CoursesNameOne }
     ensures good { NamesForGood }
     ensures voided { StaysVoided }
     ensures repeats { RepeatsAreTaken }
@@ -38,6 +40,28 @@ pub fn law_of_pages()
     ensures end { PagesEnd }
     ensures first { FirstPagesAreTold }
     ensures stay { LinksStay }
+{}
+
+/// Over every history the number of an edition of a course is one more than the number of earlier editions of its id,
+/// the newest is the last of them, and each is found by id and number, for good. Over every legal history each entry
+/// that brings a course makes an edition, and a registration has the edition that its enrolment named, or else the
+/// newest of the id before it.
+pub fn law_of_editions()
+    ensures numbers { EditionsAreNumbered }
+    ensures found { EditionsAreFound }
+    ensures newest { NewestIsLast }
+    ensures counts { CoursesCountEditions }
+    ensures one { CoursesNameOne }
+    ensures stay { EditionsStay }
+    ensures entries { CoursesAreEditions }
+    ensures registrations { RegistrationsKeepTheirEdition }
+{}
+
+/// Each history that was legal before courses had editions is legal, and can be moved into a store, under a limit that
+/// holds its frames.
+pub fn law_of_former_histories()
+    ensures legal { FormerHistoriesAreLegal }
+    ensures movable { FormerHistoriesAreMovable }
 {}
 
 /// Over every history the document under a key is made by the entries on that key alone: it is what was put, what

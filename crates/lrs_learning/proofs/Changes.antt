@@ -41,7 +41,7 @@ launched_is st at mode return_url t o x is made = made ∙ ap (λ p. launching s
 -- ---- enrolments
 
 abbrev pub registered : List ℕ → ℕ → Agent → HeldRegistration
-registered id course actor = record { id = id; course = course; actor = actor }
+registered id edition actor = record { id = id; edition = edition; actor = actor }
 
 abbrev pub enrolled_with : ℕ → HeldRegistration → List ℕ → List StoredStatement → Effect
 enrolled_with moment r session owed = record (no_change moment) {
@@ -55,12 +55,12 @@ abbrev pub enrolled_under : State → ℕ → HeldRegistration → List ℕ → 
 enrolled_under st moment r session s =
     enrolled_with moment r session (owed_made st session s moment [] (enrolled_as st r))
 
-pub enrolled_is : (st : State) (by : Who) (moment : ℕ) (draw : Draw) (course : ℕ) (actor : Agent) (id session : List ℕ) (s : Supply) → id ≡ supply_at st draw 0 → session ≡ supply_at st draw 1
-    → GiveSame s (rest_of (rest_of (supply_at st draw))) → enrolled_under st moment (registered id course actor) session s ≡ enrolling st (occasion_at st by moment draw) actor (Some course)
-enrolled_is st by moment draw course actor id session s first second left =
+pub enrolled_is : (st : State) (by : Who) (moment : ℕ) (draw : Draw) (edition : ℕ) (actor : Agent) (id session : List ℕ) (s : Supply) → id ≡ supply_at st draw 0 → session ≡ supply_at st draw 1
+    → GiveSame s (rest_of (rest_of (supply_at st draw))) → enrolled_under st moment (registered id edition actor) session s ≡ enrolling st (occasion_at st by moment draw) actor (Some edition)
+enrolled_is st by moment draw edition actor id session s first second left =
     let supply = supply_at st draw in
-    let r = registered (supply 0) course actor in
-    ap (λ i. enrolled_under st moment (registered i course actor) session s) first
+    let r = registered (supply 0) edition actor in
+    ap (λ i. enrolled_under st moment (registered i edition actor) session s) first
     ∙ (ap (λ i. enrolled_under st moment r i s) second
     ∙ ap (λ o. enrolled_with moment r (supply 1) o) (owed_same st (supply 1) s (rest_of (rest_of supply)) moment [] (enrolled_as st r) left))
 

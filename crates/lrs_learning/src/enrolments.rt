@@ -1,4 +1,4 @@
-// Enrolments: a learner is enrolled in a course, and a registration comes of it.
+// Enrolments: a learner is enrolled in an edition of a course, and a registration comes of it.
 ghost use Rattle.std.specs.Prelude.{◌≡◌, [], IfOk, IsTrue, Some};
 ghost use Rattle.lrs_command.specs.declared.who.Who.{Who as SpecWho};
 ghost use Rattle.lrs_sessions.specs.LrsHistoryDeskEffects.{coming, enrolling, made_session};
@@ -6,7 +6,7 @@ ghost use Rattle.lrs_sessions.specs.LrsHistoryEnrolments.{enrolled_as};
 ghost use Rattle.lrs_sessions.specs.LrsHistoryMade.{owed_made};
 ghost use Rattle.lrs_ids.specs.IdSupply.{left_of};
 ghost use Rattle.lrs_learning.specs.Occasions.{occasion_at};
-ghost use Rattle.lrs_sessions.specs.LrsStateCourses.{index_of_course};
+ghost use Rattle.lrs_sessions.specs.LrsStateCourses.{index_meant};
 ghost use Rattle.lrs_sessions.specs.LrsStateLearners.{is_learner};
 ghost use Rattle.lrs_sessions.specs.LrsPartsParts.{state_of};
 ghost use Rattle.lrs_sessions.specs.LrsStateState.{no_change, used_in};
@@ -19,14 +19,15 @@ use lrs_json::{Items, Memory};
 use lrs_names::{Draw, Id, Iri};
 use lrs_parts::{
     Acceptance, Effect, HeldRegistration, Learner, MadeSession, MadeSessionsChange, Parts,
-    RegistrationsChange, index_of_course,
+    RegistrationsChange, index_meant,
 };
 use lrs_record::Moment;
 use lrs_sessions::{add_owed, enrolled_as};
 use std::alloc::Global;
 use xapi_statement::StoredStatement;
 
-/// Enrols a learner in the course of that id, if there is one. What is satisfied at once is said.
+/// Enrols a learner in the course of that id: in the edition of that number, or in the newest where none is named, if
+/// there is one. What is satisfied at once is said.
 pub fn enrolling(
     alloc: Global,
     parts: &Parts,
@@ -34,30 +35,43 @@ pub fn enrolling(
     draw: &Draw,
     course: Iri,
     actor: Agent,
+    edition: Option<u32>,
 ) -> Result<Effect, Memory>
     requires { IsTrue (is_learner actor) }
     ensures { IfOk result (λ made. (by : SpecWho) → made
         ≡ enrolling (state_of parts.now) (occasion_at (state_of parts.now) by moment draw.now) actor
-        (index_of_course course (state_of parts.now).courses)) }
+        (index_meant course edition (state_of parts.now).courses (state_of parts.now).editions)) }
 {
-    let Some(course) = index_of_course(&parts.learning.courses, &course) else {
-        drop(actor);
-        return Ok(Effect::no_change(alloc, moment));
-    };
-    enrol_in(alloc, parts, moment, draw, course, Learner::of(actor))
+    let learning = &parts.learning;
+    match index_meant(
+        &learning.courses,
+        &learning.editions,
+        course.text(),
+        edition,
+    ) {
+        Ok(Some(index)) => enrol_in(alloc, parts, moment, draw, index, Learner::of(actor)),
+        Ok(None) => {
+            drop(actor);
+            Ok(Effect::no_change(alloc, moment))
+        }
+        Err(refused) => {
+            drop(actor);
+            Err(refused)
+        }
+    }
 }
 
-// In the course of that index.
+// In the edition of that index.
 fn enrol_in(
     alloc: Global,
     parts: &Parts,
     moment: Moment,
     draw: &Draw,
-    course: u32,
+    edition: u32,
     actor: Learner,
 ) -> Result<Effect, Memory>
     ensures { IfOk result (λ made. (by : SpecWho) → made
-        ≡ enrolling (state_of parts.now) (occasion_at (state_of parts.now) by moment draw.now) actor (Some course)) }
+        ≡ enrolling (state_of parts.now) (occasion_at (state_of parts.now) by moment draw.now) actor (Some edition)) }
 {
     match first_two(alloc, parts, draw) {
         Ok(ids) => enrol_as(
@@ -66,7 +80,7 @@ fn enrol_in(
             moment,
             HeldRegistration {
                 id: ids.first,
-                course,
+                edition,
                 actor,
             },
             ids.second,

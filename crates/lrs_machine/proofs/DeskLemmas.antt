@@ -103,7 +103,6 @@ ok_status (Ok said.Same) = refl
 ok_status (Ok (said.Shown text through)) = refl
 ok_status (Ok (said.Document media bytes)) = refl
 ok_status (Ok (said.Refused (refusal.Conflict id))) = refl
-ok_status (Ok (said.Refused (refusal.CourseConflict id))) = refl
 ok_status (Ok (said.Refused (refusal.Full n l))) = refl
 ok_status (Ok (said.Refused (refusal.Broken rule))) = refl
 ok_status (Ok (said.Refused refusal.TooLong)) = refl

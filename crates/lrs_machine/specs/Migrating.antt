@@ -1,5 +1,5 @@
 -- What moving a store into another file promises.
-use Rattle.std.specs.Prelude.{◌≡◌, ◌⊎◌, ◌<◌, ◌≤◌, ◌+◌, ◌==◌, ℕ, List, [], ◌∷◌, ◌++◌, length, map, Option, Some, None}
+use Rattle.std.specs.Prelude.{◌≡◌, ◌⊎◌, ◌<◌, ◌≤◌, ◌+◌, ℕ, List, [], ◌∷◌, ◌++◌, length, map, Option, Some, None}
 use Rattle.std.specs.Prelude.{Bool, true, false, Result, Ok, Err}
 use Rattle.std.specs.Option.{ForSome}
 use Rattle.std.specs.List.{AllByRecursion}
@@ -23,6 +23,7 @@ use Rattle.lrs_journal.specs.declared.sizes.TheConstants.{MOST_BYTES}
 use Rattle.lrs_record.specs.Entries.{IsLawful, written_entry}
 use Rattle.lrs_record.specs.declared.entry.Entry.{Entry}
 use Rattle.lrs_fold.specs.LrsHistoryHistory.{end_offset, need, state, step}
+pub use Rattle.lrs_fold.specs.LrsHistoryHistory.{HasRoomFrom, IsMovable, MayComeAfter, MayComeFrom}
 use Rattle.lrs_fold.specs.Next.{may_come}
 use Rattle.lrs_parts.specs.State.{State}
 use Rattle.lrs_machine.specs.Desk.{IsStoreOf}
@@ -36,27 +37,6 @@ use Rattle.lrs_machine.specs.declared.replaying.JudgeRefused.TheVariants as judg
 abbrev pub chosen : Option ℕ → ℕ → ℕ
 chosen None own = own
 chosen (Some limit) own = limit
-
--- ---- entries that may come, and room
-
--- the entry may come after these, if there is room for it
-abbrev pub MayComeAfter : List Entry → Entry → Type 0
-MayComeAfter before e = may_come (length before == 0) (state before) e ≡ true
-
--- each entry may come after those before it, if there is room for it
-abbrev pub MayComeFrom : List Entry → List Entry → Type 0
-MayComeFrom before [] = Unit {0}
-MayComeFrom before (e ∷ rest) = IsLawful e × MayComeAfter before e × MayComeFrom (before ++ e ∷ []) rest
-
--- each entry, written behind those before it, needs no more bytes than this
-abbrev pub HasRoomFrom : ℕ → List Entry → List Entry → Type 0
-HasRoomFrom limit before [] = Unit {0}
-HasRoomFrom limit before (e ∷ rest) =
-    (need (end_offset limit before) e ≤ limit) × HasRoomFrom limit (before ++ e ∷ []) rest
-
--- these entries can be moved into a file of this limit
-abbrev pub IsMovable : ℕ → List Entry → Type 0
-IsMovable limit h = MayComeFrom [] h × HasRoomFrom limit [] h
 
 -- ---- why a store isn't moved
 

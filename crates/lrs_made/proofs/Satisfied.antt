@@ -37,9 +37,9 @@ said_more before after x j pushed says =
     ap (λ (xs : List Statement). map value_of xs) pushed
     ∙ (map-append value_of before (x ∷ []) ∙ ap (λ (k : Json). map value_of before ++ k ∷ []) says)
 
-pub node_said : (e : Enrolled) (session : List ℕ) (index : ℕ) (node : Node) → Some node ≡ node_at index e.course
+pub node_said : (e : Enrolled) (session : List ℕ) (index : ℕ) (node : Node) → Some node ≡ node_at index e.edition.course
     → satisfied_json e session index node ∷ [] ≡ filter_map (satisfied_at e session) (index ∷ [])
 node_said e session index node at = ap (λ (o : Option Node). cons_option (option_map (satisfied_json e session index) o) []) at
 
-pub no_node : (e : Enrolled) (session : List ℕ) (index : ℕ) → None ≡ node_at index e.course → [] ≡ filter_map (satisfied_at e session) (index ∷ [])
+pub no_node : (e : Enrolled) (session : List ℕ) (index : ℕ) → None ≡ node_at index e.edition.course → [] ≡ filter_map (satisfied_at e session) (index ∷ [])
 no_node e session index at = ap (λ (o : Option Node). cons_option (option_map (satisfied_json e session index) o) []) at

@@ -8,11 +8,11 @@ use Rattle.lrs_history.specs.LrsStateState.{State}
 
 -- ---- registrations
 
--- what is seen of a registration that is lent, with its course
+-- what is seen of a registration that is lent, with its edition
 abbrev pub seen_enrolled : LentEnrolled → Enrolled
-seen_enrolled e = record { base = e.base.now; registration = e.registration.now; course = e.course.now }
+seen_enrolled e = record { base = e.base.now; registration = e.registration.now; edition = e.edition.now }
 
--- The course is that of the registration in a store of that state, with its address.
+-- The edition is that of the registration in a store of that state, with its address.
 abbrev pub IsLentBy : State → LentEnrolled → Type 0
 IsLentBy st e = enrolled_as st e.registration.now ≡ Some (seen_enrolled e)
 
@@ -28,11 +28,11 @@ seen_target t = record {
   unit = t.unit.now;
 }
 
--- its registration with its course
+-- its registration with its edition
 abbrev pub enrolled_of : LentTarget → Enrolled
-enrolled_of t = record { base = t.base.now; registration = t.registration.now; course = t.course.now }
+enrolled_of t = record { base = t.base.now; registration = t.registration.now; edition = t.edition.now }
 
--- The same of a unit: the course is that of its registration, and has a node of that number.
+-- The same of a unit: the edition is that of its registration, and has a node of that number.
 pub record IsTargetOf (st : State) (t : LentTarget) : Type 0 where
   pub enrolled : enrolled_as st t.registration.now ≡ Some (enrolled_of t)
-  pub index : t.index < length t.course.now.nodes
+  pub index : t.index < length t.edition.now.course.nodes

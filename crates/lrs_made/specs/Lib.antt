@@ -16,6 +16,7 @@ pub use Rattle.lrs_history.specs.Enrolments as LrsHistoryEnrolments
 pub use Rattle.lrs_history.specs.History as LrsHistoryHistory
 pub use Rattle.lrs_history.specs.Launches as LrsHistoryLaunches
 pub use Rattle.lrs_history.specs.LrsStateCourses as LrsStateCourses
+pub use Rattle.lrs_history.specs.LrsStateEditions as LrsStateEditions
 pub use Rattle.lrs_history.specs.LrsStateFounding as LrsStateFounding
 pub use Rattle.lrs_history.specs.LrsStateLaunches as LrsStateLaunches
 pub use Rattle.lrs_history.specs.LrsStateLearners as LrsStateLearners

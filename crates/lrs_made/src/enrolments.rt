@@ -1,4 +1,4 @@
-// Registrations with their courses.
+// Registrations with their editions.
 ghost use Rattle.std.specs.Prelude.{◌≡◌, option_map, IfOk, IfSome};
 ghost use Rattle.lrs_history.specs.Cmi5VerdictNodes.{seen};
 ghost use Rattle.lrs_history.specs.Enrolments.{enrolled, enrolled_as, enrolled_from, enrolment_of, verdicts_of};
@@ -6,19 +6,18 @@ ghost use Rattle.lrs_made.specs.Lent.{IsLentBy, seen_enrolled};
 ghost use Rattle.lrs_parts.specs.Parts.{state_of};
 ghost use Rattle.lrs_history.specs.LrsStateFoundingFounding.{Founding as SpecFounding};
 
-use crate::held::{course_of, founding_of, registration_under};
-use cmi5_course::Course;
+use crate::held::{edition_of, founding_of, registration_under};
 use lrs_json::Memory;
 use lrs_names::{Id, Iri};
-use lrs_parts::{Enrolment, HeldRegistration, Parts};
+use lrs_parts::{Edition, Enrolment, HeldRegistration, Parts};
 use std::alloc::Global;
 
-/// A registration, its course, and the address that the store's own names begin with: all lent by the parts.
+/// A registration, its edition, and the address that the store's own names begin with: all lent by the parts.
 #[derive(Clone, Copy)]
 pub struct LentEnrolled<'a> {
     pub base: &'a Iri,
     pub registration: &'a HeldRegistration,
-    pub course: &'a Course,
+    pub edition: &'a Edition,
 }
 
 impl LentEnrolled<'_> {
@@ -27,17 +26,17 @@ impl LentEnrolled<'_> {
         ensures { seen result ≡ enrolment_of (seen_enrolled self.now) }
     {
         let registration = self.registration;
-        let course = self.course;
+        let edition = self.edition;
         Enrolment {
             registration: &registration.id,
             base: self.base,
-            course: registration.course,
-            nodes: course.nodes(),
+            course: registration.edition,
+            nodes: edition.course().nodes(),
         }
     }
 }
 
-/// The registration of that id with its course, if both are there.
+/// The registration of that id with its edition, if both are there.
 pub fn enrolled<'a>(parts: &'a Parts, id: &Id) -> Option<LentEnrolled<'a>>
     ensures found { option_map seen_enrolled result ≡ enrolled (state_of parts.now) id.now }
     ensures lent { IfSome result (λ e. IsLentBy (state_of parts.now) e) }
@@ -48,7 +47,7 @@ pub fn enrolled<'a>(parts: &'a Parts, id: &Id) -> Option<LentEnrolled<'a>>
     }
 }
 
-/// A registration with its course, if that is there. The registration may be one that is yet to be held.
+/// A registration with its edition, if that is there. The registration may be one that is yet to be held.
 pub fn enrolled_as<'a>(
     parts: &'a Parts,
     registration: &'a HeldRegistration,
@@ -71,13 +70,13 @@ fn enrolled_from<'a>(
     ensures { (founding : SpecFounding) → founding.base ≡ base.now → option_map seen_enrolled result
         ≡ enrolled_from (state_of parts.now) registration.now founding }
 {
-    let Some(course) = course_of(parts, registration) else {
+    let Some(edition) = edition_of(parts, registration) else {
         return None;
     };
     Some(LentEnrolled {
         base,
         registration,
-        course,
+        edition,
     })
 }
 

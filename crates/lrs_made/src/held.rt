@@ -1,12 +1,11 @@
-// What is held of registrations and of their courses.
+// What is held of registrations and of their editions.
 ghost use Rattle.std.specs.Prelude.{◌≡◌, slice_get};
 ghost use Rattle.std.specs.Option.{option_copied};
 ghost use Rattle.lrs_parts.specs.Parts.{state_of};
 ghost use Rattle.lrs_history.specs.LrsStateRegistrations.{registration_under};
 
-use cmi5_course::Course;
 use lrs_names::Id;
-use lrs_parts::{Founding, HeldRegistration, Parts};
+use lrs_parts::{Edition, Founding, HeldRegistration, Parts};
 
 /// What the store was founded with, if it was.
 pub(crate) fn founding_of(parts: &Parts) -> Option<&Founding>
@@ -22,9 +21,12 @@ pub(crate) fn registration_under<'a>(parts: &'a Parts, id: &Id) -> Option<&'a He
     parts.learning.registrations.find(id)
 }
 
-/// The course of a registration.
-pub(crate) fn course_of<'a>(parts: &'a Parts, registration: &HeldRegistration) -> Option<&'a Course>
-    ensures { option_copied result ≡ slice_get (state_of parts.now).courses registration.now.course }
+/// The edition of a registration.
+pub(crate) fn edition_of<'a>(
+    parts: &'a Parts,
+    registration: &HeldRegistration,
+) -> Option<&'a Edition>
+    ensures { option_copied result ≡ slice_get (state_of parts.now).editions registration.now.edition }
 {
-    parts.learning.courses.get(registration.course)
+    parts.learning.editions.get(registration.edition)
 }

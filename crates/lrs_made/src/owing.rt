@@ -131,7 +131,7 @@ fn push_satisfied(
     ensures { OnOk result (jsons_of said.new.items ≡ jsons_of said.old.items
         ++ filter_map (satisfied_at (seen_enrolled enrolled.now) session.now) (index ∷ [])) }
 {
-    let course = enrolled.course;
+    let course = enrolled.edition.course();
     match course.node_at(index) {
         Some(node) => push_of_node(alloc, enrolled, session, index, node, said),
         None => Ok(()),
@@ -167,6 +167,6 @@ fn satisfied_statement(
 {
     let registration = enrolled.registration;
     let made = Made::Satisfied { kind: node.kind };
-    let activity = activity_id(alloc, enrolled.base.text(), registration.course, index)?;
+    let activity = activity_id(alloc, enrolled.base.text(), registration.edition, index)?;
     statement_of(alloc, &made, registration, &activity, &node.id, session)
 }

@@ -6,20 +6,20 @@ ghost use Rattle.lrs_made.specs.Lent.{IsTargetOf, enrolled_of, seen_target};
 ghost use Rattle.lrs_parts.specs.Parts.{state_of};
 
 use crate::enrolments::enrolled;
-use cmi5_course::{Course, Unit};
+use cmi5_course::Unit;
 use cmi5_launch::activity_id;
 use lrs_json::Memory;
 use lrs_names::{Id, Iri};
-use lrs_parts::{HeldRegistration, Parts};
+use lrs_parts::{Edition, HeldRegistration, Parts};
 use std::alloc::Global;
 
-/// A unit of a registration's course, its index among the nodes, and the address that the store's own names begin with:
-/// all lent by the parts.
+/// A unit of a registration's edition, its index among the nodes, and the address that the store's own names begin
+/// with: all lent by the parts.
 #[derive(Clone, Copy)]
 pub struct LentTarget<'a> {
     pub base: &'a Iri,
     pub registration: &'a HeldRegistration,
-    pub course: &'a Course,
+    pub edition: &'a Edition,
     pub index: u32,
     /// The id that its publisher gave it.
     pub publisher: &'a Iri,
@@ -34,40 +34,40 @@ impl LentTarget<'_> {
         activity_id(
             alloc,
             self.base.text(),
-            self.registration.course,
+            self.registration.edition,
             self.index,
         )
     }
 }
 
-/// The unit of that id in the course of that registration, if both are there.
+/// The unit of that id in the edition of that registration, if both are there.
 pub fn target<'a>(parts: &'a Parts, registration: &Id, publisher: &'a Iri) -> Option<LentTarget<'a>>
     ensures found { option_map seen_target result ≡ target (state_of parts.now) registration.now publisher.now }
     ensures address { IfSome result (λ t. IsAddress t.unit.now.url) }
     ensures lent { IfSome result (λ t. IsTargetOf (state_of parts.now) t) }
 {
     match enrolled(parts, registration) {
-        Some(known) => target_in(known.base, known.registration, known.course, publisher),
+        Some(known) => target_in(known.base, known.registration, known.edition, publisher),
         None => None,
     }
 }
 
-// The unit of that id in that course.
+// The unit of that id in that edition.
 fn target_in<'a>(
     base: &'a Iri,
     registration: &'a HeldRegistration,
-    course: &'a Course,
+    edition: &'a Edition,
     publisher: &'a Iri,
 ) -> Option<LentTarget<'a>>
     ensures found { option_map seen_target result
-        ≡ target_in base.now registration.now publisher.now course.now }
+        ≡ target_in base.now registration.now publisher.now edition.now.course }
     ensures address { IfSome result (λ t. IsAddress t.unit.now.url) }
     ensures enrolled { IfSome result (λ t. enrolled_of t
-        ≡ record { base = base.now; registration = registration.now; course = course.now }) }
-    ensures index { IfSome result (λ t. t.index < length course.now.nodes) }
+        ≡ record { base = base.now; registration = registration.now; edition = edition.now }) }
+    ensures index { IfSome result (λ t. t.index < length edition.now.course.nodes) }
 {
-    match course.unit(publisher) {
-        Some(index) => target_at(base, registration, course, index, publisher),
+    match edition.course().unit(publisher) {
+        Some(index) => target_at(base, registration, edition, index, publisher),
         None => None,
     }
 }
@@ -76,22 +76,22 @@ fn target_in<'a>(
 fn target_at<'a>(
     base: &'a Iri,
     registration: &'a HeldRegistration,
-    course: &'a Course,
+    edition: &'a Edition,
     index: u32,
     publisher: &'a Iri,
 ) -> Option<LentTarget<'a>>
     ensures found { option_map seen_target result
-        ≡ target_at base.now registration.now publisher.now course.now index }
+        ≡ target_at base.now registration.now publisher.now edition.now.course index }
     ensures address { IfSome result (λ t. IsAddress t.unit.now.url) }
     ensures enrolled { IfSome result (λ t. enrolled_of t
-        ≡ record { base = base.now; registration = registration.now; course = course.now }) }
-    ensures index { IfSome result (λ t. t.index < length course.now.nodes) }
+        ≡ record { base = base.now; registration = registration.now; edition = edition.now }) }
+    ensures index { IfSome result (λ t. t.index < length edition.now.course.nodes) }
 {
-    match course.unit_at(index) {
+    match edition.course().unit_at(index) {
         Some(unit) => Some(LentTarget {
             base,
             registration,
-            course,
+            edition,
             index,
             publisher,
             unit,

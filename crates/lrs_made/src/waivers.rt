@@ -25,7 +25,7 @@ pub fn is_waived(alloc: Global, parts: &Parts, target: &LentTarget<'_>) -> Resul
     let enrolled = LentEnrolled {
         base: target.base,
         registration: target.registration,
-        course: target.course,
+        edition: target.edition,
     };
     parts.is_waived(
         alloc,

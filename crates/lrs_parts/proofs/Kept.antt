@@ -5,7 +5,6 @@ use Rattle.std.specs.List.{list_any}
 use Rattle.std.specs.Map.{lookup}
 use Rattle.std.specs.Option.{option_map_or}
 use Rattle.std.proofs.lemmas.Option.{none-some}
-use Rattle.cmi5_course.specs.Courses.{Course}
 use Rattle.cmi5_running_sessions.specs.Kept.{SeenSessions, SaidStandsFor, is_same, nothing_reached, nothing_said, own_said, reached_in, unit_of, units_of}
 use Rattle.cmi5_running_sessions.specs.Room.{AddsNoSlots, HasOwnSlot, HasSlotsFor, HasUnitSlot, KeepsSlots, KeepsSame, MakesSlots, TakesSlotsBack, needs_own, needs_unit}
 use Rattle.cmi5_running_sessions.specs.declared.own.OwnSaid.{OwnSaid}
@@ -15,7 +14,7 @@ use Rattle.cmi5_running_verdicts.specs.Running.{SeenRunning}
 use Rattle.cmi5_running_verdicts.specs.declared.tally.Tally.{Tally}
 use Rattle.cmi5_running_sessions.specs.Cmi5SessionMarked.{MarkedStatement, marked, statements_of}
 use Rattle.lrs_ids.specs.Ids.{are_distinct}
-use Rattle.lrs_state.specs.Courses.{courses_after}
+use Rattle.lrs_state.specs.Editions.{SeenEdition, editions_after}
 use Rattle.lrs_state.specs.Founding.{founding_after}
 use Rattle.lrs_parts.specs.Progress.{AreCounted, KeepsUp, HasTallies, IsUpToDate}
 use Rattle.lrs_state.specs.Registrations.{registrations_after}
@@ -89,12 +88,12 @@ stands_same old new those same stands = record {
   reached = λ registration activity. same.reached registration activity ∙ stands.reached registration activity;
 }
 
-counted_same : (old new : SeenRunning) (founding : Option Founding) (courses : List Course) (registrations : List HeldRegistration) (those : List MarkedStatement) → new.held ≡ old.held
-    → AreCounted old founding courses registrations those → AreCounted new founding courses registrations those
-counted_same old new founding courses registrations those same counted = record {
+counted_same : (old new : SeenRunning) (founding : Option Founding) (editions : List SeenEdition) (registrations : List HeldRegistration) (those : List MarkedStatement) → new.held ≡ old.held
+    → AreCounted old founding editions registrations those → AreCounted new founding editions registrations those
+counted_same old new founding editions registrations those same counted = record {
   long = ap (λ (hs : List (List Tally)). length hs) same ∙ counted.long;
   each = λ id k r index there.
-      let its : HasTallies old founding courses those k r = counted.each id k r index there in
+      let its : HasTallies old founding editions those k r = counted.each id k r index there in
       record {
         enrolment = its.enrolment;
         enrolled = its.enrolled;
@@ -103,51 +102,51 @@ counted_same old new founding courses registrations those same counted = record 
 }
 
 -- what stands ahead is let go
-pub settled : (old new : Progress) (founding : Option Founding) (courses : List Course) (registrations : List HeldRegistration) (those : List MarkedStatement)
-    → new.sessions ≡ old.sessions → new.running.held ≡ old.running.held → KeepsUp old founding courses registrations those → KeepsUp new founding courses registrations those
-settled old new founding courses registrations those sessions held follows = record {
+pub settled : (old new : Progress) (founding : Option Founding) (editions : List SeenEdition) (registrations : List HeldRegistration) (those : List MarkedStatement)
+    → new.sessions ≡ old.sessions → new.running.held ≡ old.running.held → KeepsUp old founding editions registrations those → KeepsUp new founding editions registrations those
+settled old new founding editions registrations those sessions held follows = record {
   sessions = subst (λ (s : SeenSessions). SaidStandsFor s those) (sym sessions) follows.sessions;
-  counted = counted_same old.running new.running founding courses registrations those held follows.counted;
+  counted = counted_same old.running new.running founding editions registrations those held follows.counted;
 }
 
 -- slots alone change
-pub kept_still : (old new : Progress) (founding : Option Founding) (courses courses_now : List Course) (registrations registrations_now : List HeldRegistration)
-    (statements statements_now : List StoredStatement) → KeepsSame old.sessions new.sessions → new.running.held ≡ old.running.held → courses_now ≡ courses
-    → registrations_now ≡ registrations → statements_now ≡ statements → IsUpToDate old founding courses registrations statements → IsUpToDate new founding courses_now registrations_now statements_now
-kept_still old new founding courses courses_now registrations registrations_now statements statements_now sessions running same_courses same_registrations same_statements kept =
-    subst (λ (cs : List Course). IsUpToDate new founding cs registrations_now statements_now) (sym same_courses)
-    (subst (λ (rs : List HeldRegistration). IsUpToDate new founding courses rs statements_now) (sym same_registrations)
-    (subst (λ (ss : List StoredStatement). IsUpToDate new founding courses registrations ss) (sym same_statements) here))
+pub kept_still : (old new : Progress) (founding : Option Founding) (editions editions_now : List SeenEdition) (registrations registrations_now : List HeldRegistration)
+    (statements statements_now : List StoredStatement) → KeepsSame old.sessions new.sessions → new.running.held ≡ old.running.held → editions_now ≡ editions
+    → registrations_now ≡ registrations → statements_now ≡ statements → IsUpToDate old founding editions registrations statements → IsUpToDate new founding editions_now registrations_now statements_now
+kept_still old new founding editions editions_now registrations registrations_now statements statements_now sessions running same_editions same_registrations same_statements kept =
+    subst (λ (cs : List SeenEdition). IsUpToDate new founding cs registrations_now statements_now) (sym same_editions)
+    (subst (λ (rs : List HeldRegistration). IsUpToDate new founding editions rs statements_now) (sym same_registrations)
+    (subst (λ (ss : List StoredStatement). IsUpToDate new founding editions registrations ss) (sym same_statements) here))
   where
-    here : IsUpToDate new founding courses registrations statements
+    here : IsUpToDate new founding editions registrations statements
     here = record {
       distinct = kept.distinct;
       follows = record {
         sessions = stands_same old.sessions new.sessions (marked statements) sessions kept.follows.sessions;
-        counted = counted_same old.running new.running founding courses registrations (marked statements) running kept.follows.counted;
+        counted = counted_same old.running new.running founding editions registrations (marked statements) running kept.follows.counted;
       };
     }
 
--- a founding, a course or a registration comes
-pub kept_enrolled : (p : Progress) (running : SeenRunning) (founding later new : Option Founding) (courses more : List Course) (coming : Change Course)
+-- a founding, an edition or a registration comes
+pub kept_enrolled : (p : Progress) (running : SeenRunning) (founding later new : Option Founding) (editions more : List SeenEdition) (coming : Change SeenEdition)
     (registrations registrations_now : List HeldRegistration) (change : Change HeldRegistration) (statements : List StoredStatement) → later ≡ founding_after founding new
-    → more ≡ courses_after courses coming → coming.replaced ≡ None → registrations_now ≡ registrations_after registrations change → change.replaced ≡ None
+    → more ≡ editions_after editions coming → coming.replaced ≡ None → registrations_now ≡ registrations_after registrations change → change.replaced ≡ None
     → ((rs : List HeldRegistration) → AreCounted p.running later more rs (marked statements) → AreCounted running later more (with_new rs change.new) (marked statements))
-    → IsUpToDate p founding courses registrations statements → IsUpToDate (record { sessions = p.sessions; running = running; targets = p.targets }) later more registrations_now statements
-kept_enrolled p running founding later new courses more coming registrations registrations_now change statements founded came stay made made_stay step kept = record {
+    → IsUpToDate p founding editions registrations statements → IsUpToDate (record { sessions = p.sessions; running = running; targets = p.targets }) later more registrations_now statements
+kept_enrolled p running founding later new editions more coming registrations registrations_now change statements founded came stay made made_stay step kept = record {
   distinct = kept.distinct;
   follows = record {
     sessions = kept.follows.sessions;
     counted = subst (λ (rs : List HeldRegistration). AreCounted running later more rs (marked statements)) (sym (made ∙ registered registrations change made_stay))
-        (step registrations (counted_under p.running founding later courses more registrations (marked statements) (enrolled_on founding later new courses more coming founded came stay)
+        (step registrations (counted_under p.running founding later editions more registrations (marked statements) (enrolled_on founding later new editions more coming founded came stay)
         kept.follows.counted));
   };
 }
 
 -- of a store without entries
-pub kept_of_nothing : (p : Progress) (courses : List Course) (registrations : List HeldRegistration) (statements : List StoredStatement) → p.sessions.own ≡ [] → p.sessions.reached ≡ []
-    → p.running.held ≡ [] → registrations ≡ [] → statements ≡ [] → IsUpToDate p None courses registrations statements
-kept_of_nothing p courses registrations statements own reached held no_registrations no_statements = record {
+pub kept_of_nothing : (p : Progress) (editions : List SeenEdition) (registrations : List HeldRegistration) (statements : List StoredStatement) → p.sessions.own ≡ [] → p.sessions.reached ≡ []
+    → p.running.held ≡ [] → registrations ≡ [] → statements ≡ [] → IsUpToDate p None editions registrations statements
+kept_of_nothing p editions registrations statements own reached held no_registrations no_statements = record {
   distinct = ap (λ (ss : List StoredStatement). are_distinct (ids_of ss)) no_statements;
   follows = record {
     sessions = record {
@@ -168,14 +167,15 @@ kept_of_nothing p courses registrations statements own reached held no_registrat
 -- ---- states and results
 
 -- states whose parts are the same
-pub same_states : (a b : State) → a.founding ≡ b.founding → a.providers ≡ b.providers → a.statements ≡ b.statements → a.documents ≡ b.documents → a.courses ≡ b.courses
+pub same_states : (a b : State) → a.founding ≡ b.founding → a.providers ≡ b.providers → a.statements ≡ b.statements → a.documents ≡ b.documents → a.editions ≡ b.editions → a.courses ≡ b.courses
     → a.registrations ≡ b.registrations → a.launches ≡ b.launches → a.sessions ≡ b.sessions → a.made_sessions ≡ b.made_sessions → a.keys ≡ b.keys → a.tokens ≡ b.tokens → a.length ≡ b.length
     → a.last ≡ b.last → a ≡ b
-same_states a b founding providers statements documents courses registrations launches sessions made_sessions keys tokens long last = λ i. record {
+same_states a b founding providers statements documents editions courses registrations launches sessions made_sessions keys tokens long last = λ i. record {
   founding = founding i;
   providers = providers i;
   statements = statements i;
   documents = documents i;
+  editions = editions i;
   courses = courses i;
   registrations = registrations i;
   launches = launches i;

@@ -41,6 +41,7 @@ state_of parts = record {
   providers = parts.providers.held;
   statements = parts.statements.held;
   documents = documents_in parts.documents;
+  editions = parts.learning.editions.held;
   courses = parts.learning.courses.held;
   registrations = parts.learning.registrations.held;
   launches = parts.learning.launches.held;
@@ -67,7 +68,7 @@ pub record IsReadyFor (parts : SeenParts) (effect : Effect) : Type 0 where
   pub statements : IsIndexReadyFor parts.statements effect.statements
   pub documents : HasRoomForDocuments parts.documents effect.documents
   pub learning : IsLearningReadyFor parts.learning effect
-  pub progress : IsProgressReadyFor parts.progress parts.founding parts.learning.courses.held parts.statements.held
+  pub progress : IsProgressReadyFor parts.progress parts.founding parts.learning.editions.held parts.statements.held
       effect
   pub length : parts.length + 1 < 2 ^ 64
 

@@ -3,7 +3,6 @@
 ghost use Rattle.std.specs.Prelude.{◌≡◌, ◌≤◌, ◌<◌, ◌+◌, ◌^◌, ◌++◌, ◌∷◌, [], ℕ, List, Option, IfSome, IsTrue, None};
 ghost use Rattle.std.specs.Prelude.{Some, false, true, is_some, length, option_map, slice_get, take};
 ghost use Rattle.std.specs.Option.{option_copied};
-ghost use Rattle.cmi5_course.specs.Courses.{Course as SpecCourse};
 ghost use Rattle.cmi5_running_sessions.specs.Room.{HasSlotsFor, HasSlotsForEach, KeepsSlots};
 ghost use Rattle.cmi5_running_verdicts.specs.Holding.{StandBehindHolders};
 ghost use Rattle.cmi5_running_verdicts.specs.Running.{HasCounted};
@@ -13,6 +12,7 @@ ghost use Rattle.lrs_ids.specs.Ids.{are_distinct};
 ghost use Rattle.lrs_parts.specs.Progress.{AreCounted, KeepsUp, IsUpToDate, IsReadyToEnrol};
 ghost use Rattle.lrs_parts.specs.Progress.{enrolment_at, enrolment_in, enrolment_with, is_statement_at, is_voided_anew};
 ghost use Rattle.lrs_parts.specs.Progress.{number_named, index_behind, voided_anew};
+ghost use Rattle.lrs_state.specs.Editions.{SeenEdition};
 ghost use Rattle.lrs_parts.specs.Trees.{AreTargets, voided_in};
 ghost use Rattle.lrs_state.specs.declared.founding.Founding.{Founding as SpecFounding};
 ghost use Rattle.lrs_state.specs.declared.registrations.HeldRegistration.{HeldRegistration as SpecRegistration};
@@ -23,56 +23,55 @@ ghost use Rattle.xapi_statement.specs.Stored.{StoredStatement as SpecStatement};
 
 use crate::Progress;
 use crate::trees::{is_same_id, take_out, tree_voided_by};
-use cmi5_course::Course;
 use cmi5_running_verdicts::{Enrolment, Index, Running};
 use lrs_json::Items;
-use lrs_state::{Courses, Founding, HeldRegistration, Learning, Registrations};
+use lrs_state::{Edition, Editions, Founding, HeldRegistration, Learning, Registrations};
 use xapi_statement::{StoredStatement, registration_of};
 
-// ---- registrations with their courses
+// ---- registrations with their editions
 
-/// What verdicts look at of a registration, if the store is founded and the course is there.
+/// What verdicts look at of a registration, if the store is founded and the edition is there.
 pub(crate) fn enrolment_in<'a>(
     founding: &'a Option<Founding>,
-    courses: &'a Courses,
+    editions: &'a Editions,
     registration: &'a HeldRegistration,
 ) -> Option<Enrolment<'a>>
-    ensures value { option_map seen result ≡ enrolment_in founding.now courses.now.held registration.now }
+    ensures value { option_map seen result ≡ enrolment_in founding.now editions.now.held registration.now }
     ensures behind { IfSome result (λ e. StandBehindHolders e.nodes.now) }
 {
     match founding {
-        Some(founding) => enrolment_of(founding, courses, registration),
+        Some(founding) => enrolment_of(founding, editions, registration),
         None => None,
     }
 }
 
 fn enrolment_of<'a>(
     founding: &'a Founding,
-    courses: &'a Courses,
+    editions: &'a Editions,
     registration: &'a HeldRegistration,
 ) -> Option<Enrolment<'a>>
-    ensures value { option_map seen result ≡ enrolment_in (Some founding.now) courses.now.held registration.now }
+    ensures value { option_map seen result ≡ enrolment_in (Some founding.now) editions.now.held registration.now }
     ensures behind { IfSome result (λ e. StandBehindHolders e.nodes.now) }
 {
-    match courses.get(registration.course) {
-        Some(course) => Some(enrolment_with(founding, course, registration)),
+    match editions.get(registration.edition) {
+        Some(edition) => Some(enrolment_with(founding, edition, registration)),
         None => None,
     }
 }
 
 fn enrolment_with<'a>(
     founding: &'a Founding,
-    course: &'a Course,
+    edition: &'a Edition,
     registration: &'a HeldRegistration,
 ) -> Enrolment<'a>
-    ensures value { seen result ≡ enrolment_with registration.now founding.now course.now }
+    ensures value { seen result ≡ enrolment_with registration.now founding.now edition.now }
     ensures behind { StandBehindHolders result.nodes.now }
 {
     Enrolment {
         registration: &registration.id,
         base: &founding.base,
-        course: registration.course,
-        nodes: course.nodes(),
+        course: registration.edition,
+        nodes: edition.course().nodes(),
     }
 }
 
@@ -83,11 +82,11 @@ fn enrolment_at<'a>(
     number: u32,
 ) -> Option<Enrolment<'a>>
     ensures value { option_map seen result
-        ≡ enrolment_at founding.now learning.now.courses.held learning.now.registrations.held number }
+        ≡ enrolment_at founding.now learning.now.editions.held learning.now.registrations.held number }
     ensures behind { IfSome result (λ e. StandBehindHolders e.nodes.now) }
 {
     match learning.registrations.get(number) {
-        Some(registration) => enrolment_in(founding, &learning.courses, registration),
+        Some(registration) => enrolment_in(founding, &learning.editions, registration),
         None => None,
     }
 }
@@ -108,11 +107,11 @@ fn number_named(registrations: &Registrations, statement: &StoredStatement) -> O
 pub(crate) fn enrol_new(running: &mut Running, coming: &Option<HeldRegistration>)
     requires { (r : SpecRegistration) → coming.now ≡ Some r
         → (those : List MarkedStatement) × (e : SeenEnrolment) × HasCounted running.old those e }
-    ensures { (founding : Option SpecFounding) → (courses : List SpecCourse)
+    ensures { (founding : Option SpecFounding) → (editions : List SeenEdition)
         → (registrations : List SpecRegistration) → (those : List MarkedStatement)
-        → ((r : SpecRegistration) → coming.now ≡ Some r → IsReadyToEnrol running.old founding courses r those)
-        → AreCounted running.old founding courses registrations those
-        → AreCounted running.new founding courses (with_new registrations coming.now) those }
+        → ((r : SpecRegistration) → coming.now ≡ Some r → IsReadyToEnrol running.old founding editions r those)
+        → AreCounted running.old founding editions registrations those
+        → AreCounted running.new founding editions (with_new registrations coming.now) those }
 {
     if coming.is_some() {
         running.enrol();
@@ -133,10 +132,10 @@ pub(crate) fn take_in_each(
     requires ready { IsIndexReadyFor statements.old coming.now }
     requires slots { HasSlotsForEach progress.old.sessions coming.now }
     requires targets { AreTargets progress.old.targets statements.old.held coming.now }
-    requires kept { IsUpToDate progress.old founding.now learning.now.courses.held learning.now.registrations.held
+    requires kept { IsUpToDate progress.old founding.now learning.now.editions.held learning.now.registrations.held
         statements.old.held }
     ensures held { statements.new.held ≡ add_each statements.old.held coming.now }
-    ensures kept { IsUpToDate progress.new founding.now learning.now.courses.held learning.now.registrations.held
+    ensures kept { IsUpToDate progress.new founding.now learning.now.editions.held learning.now.registrations.held
         statements.new.held }
     ensures nothing { HoldsNothingAhead statements.new }
     ensures no_tallies { progress.new.running.coming ≡ None }
@@ -174,9 +173,9 @@ fn follow_each(
     requires added { statements.now.held ≡ add_each (take first statements.now.held) coming.now }
     requires slots { HasSlotsForEach progress.old.sessions coming.now }
     requires targets { AreTargets trees.now (take first statements.now.held) coming.now }
-    ensures { KeepsUp progress.old founding.now learning.now.courses.held learning.now.registrations.held
+    ensures { KeepsUp progress.old founding.now learning.now.editions.held learning.now.registrations.held
         (marked (take first statements.now.held))
-        → KeepsUp progress.new founding.now learning.now.courses.held learning.now.registrations.held
+        → KeepsUp progress.new founding.now learning.now.editions.held learning.now.registrations.held
         (marked statements.now.held) }
 {
     let mut position = first;
@@ -204,9 +203,9 @@ fn follow_next(
     requires slots { HasSlotsFor progress.old.sessions statement.now }
     requires voided { option_copied voided ≡ voided_in statements.now.held statement.now }
     ensures next { result ≡ index_behind statement.now statements.now.held at }
-    ensures follows { KeepsUp progress.old founding.now learning.now.courses.held learning.now.registrations.held
+    ensures follows { KeepsUp progress.old founding.now learning.now.editions.held learning.now.registrations.held
         (marked (take at statements.now.held))
-        → KeepsUp progress.new founding.now learning.now.courses.held learning.now.registrations.held
+        → KeepsUp progress.new founding.now learning.now.editions.held learning.now.registrations.held
         (marked (take result statements.now.held)) }
     ensures slots { KeepsSlots progress.old.sessions progress.new.sessions }
 {
@@ -236,9 +235,9 @@ fn follow_at(
     requires slots { HasSlotsFor progress.old.sessions statement.now }
     requires voided { option_copied voided ≡ voided_in statements.now.held statement.now }
     ensures next { result ≡ index_behind statement.now statements.now.held at }
-    ensures follows { KeepsUp progress.old founding.now learning.now.courses.held learning.now.registrations.held
+    ensures follows { KeepsUp progress.old founding.now learning.now.editions.held learning.now.registrations.held
         (marked (take at statements.now.held))
-        → KeepsUp progress.new founding.now learning.now.courses.held learning.now.registrations.held
+        → KeepsUp progress.new founding.now learning.now.editions.held learning.now.registrations.held
         (marked (take result statements.now.held)) }
     ensures slots { KeepsSlots progress.old.sessions progress.new.sessions }
 {
@@ -277,9 +276,9 @@ fn follow(
     requires there { slice_get statements.now.held at ≡ Some statement.now }
     requires slots { HasSlotsFor progress.old.sessions statement.now }
     requires voided { option_copied voided ≡ voided_in statements.now.held statement.now }
-    ensures follows { KeepsUp progress.old founding.now learning.now.courses.held learning.now.registrations.held
+    ensures follows { KeepsUp progress.old founding.now learning.now.editions.held learning.now.registrations.held
         (marked (take at statements.now.held))
-        → KeepsUp progress.new founding.now learning.now.courses.held learning.now.registrations.held
+        → KeepsUp progress.new founding.now learning.now.editions.held learning.now.registrations.held
         (marked (take (at + 1) statements.now.held)) }
     ensures slots { KeepsSlots progress.old.sessions progress.new.sessions }
 {
@@ -298,8 +297,8 @@ fn take_in(
 )
     requires { HasSlotsFor progress.old.sessions statement.now }
     ensures follows { (those : List MarkedStatement) → length those + 1 < 2 ^ 64
-        → KeepsUp progress.old founding.now learning.now.courses.held learning.now.registrations.held those
-        → KeepsUp progress.new founding.now learning.now.courses.held learning.now.registrations.held
+        → KeepsUp progress.old founding.now learning.now.editions.held learning.now.registrations.held those
+        → KeepsUp progress.new founding.now learning.now.editions.held learning.now.registrations.held
         (those ++ mark statement.now voided ∷ []) }
     ensures slots { KeepsSlots progress.old.sessions progress.new.sessions }
 {
@@ -316,8 +315,8 @@ fn count(
     voided: bool,
 )
     ensures { (those : List MarkedStatement) → length those + 1 < 2 ^ 64
-        → AreCounted running.old founding.now learning.now.courses.held learning.now.registrations.held those
-        → AreCounted running.new founding.now learning.now.courses.held learning.now.registrations.held
+        → AreCounted running.old founding.now learning.now.editions.held learning.now.registrations.held those
+        → AreCounted running.new founding.now learning.now.editions.held learning.now.registrations.held
         (those ++ mark statement.now voided ∷ []) }
 {
     if let Some(number) = number_named(&learning.registrations, statement) {
@@ -335,8 +334,8 @@ fn count_in(
 )
     requires { number_named statement.now learning.now.registrations.held ≡ Some number }
     ensures { (those : List MarkedStatement) → length those + 1 < 2 ^ 64
-        → AreCounted running.old founding.now learning.now.courses.held learning.now.registrations.held those
-        → AreCounted running.new founding.now learning.now.courses.held learning.now.registrations.held
+        → AreCounted running.old founding.now learning.now.editions.held learning.now.registrations.held those
+        → AreCounted running.new founding.now learning.now.editions.held learning.now.registrations.held
         (those ++ mark statement.now voided ∷ []) }
 {
     if let Some(enrolment) = enrolment_at(founding, learning, number) {
@@ -361,10 +360,10 @@ fn void_by(
     requires voided { (s : SpecStatement) → slice_get statements.now.held at ≡ Some s
         → option_copied voided ≡ voided_in statements.now.held s }
     ensures follows { (s : SpecStatement) → slice_get statements.now.held at ≡ Some s
-        → KeepsUp progress.old founding.now learning.now.courses.held learning.now.registrations.held
+        → KeepsUp progress.old founding.now learning.now.editions.held learning.now.registrations.held
         (marked (take at statements.now.held)
         ++ mark s (is_voided (take (at + 1) statements.now.held) s) ∷ [])
-        → KeepsUp progress.new founding.now learning.now.courses.held learning.now.registrations.held
+        → KeepsUp progress.new founding.now learning.now.editions.held learning.now.registrations.held
         (marked (take (at + 1) statements.now.held)) }
     ensures slots { KeepsSlots progress.old.sessions progress.new.sessions }
 {
@@ -414,9 +413,9 @@ fn void_tree(
 )
     ensures follows { (s : SpecStatement) (before behind : List MarkedStatement)
         → option_copied voided.entry ≡ Some s
-        → KeepsUp progress.old founding.now learning.now.courses.held learning.now.registrations.held
+        → KeepsUp progress.old founding.now learning.now.editions.held learning.now.registrations.held
         (before ++ mark s false ∷ behind)
-        → KeepsUp progress.new founding.now learning.now.courses.held learning.now.registrations.held
+        → KeepsUp progress.new founding.now learning.now.editions.held learning.now.registrations.held
         (before ++ mark s true ∷ behind) }
     ensures slots { KeepsSlots progress.old.sessions progress.new.sessions }
 {
@@ -432,9 +431,9 @@ fn void(
     statement: &StoredStatement,
 )
     ensures follows { (before behind : List MarkedStatement)
-        → KeepsUp progress.old founding.now learning.now.courses.held learning.now.registrations.held
+        → KeepsUp progress.old founding.now learning.now.editions.held learning.now.registrations.held
         (before ++ mark statement.now false ∷ behind)
-        → KeepsUp progress.new founding.now learning.now.courses.held learning.now.registrations.held
+        → KeepsUp progress.new founding.now learning.now.editions.held learning.now.registrations.held
         (before ++ mark statement.now true ∷ behind) }
     ensures slots { KeepsSlots progress.old.sessions progress.new.sessions }
 {
@@ -450,9 +449,9 @@ fn discount(
     statement: &StoredStatement,
 )
     ensures { (before behind : List MarkedStatement)
-        → AreCounted running.old founding.now learning.now.courses.held learning.now.registrations.held
+        → AreCounted running.old founding.now learning.now.editions.held learning.now.registrations.held
         (before ++ mark statement.now false ∷ behind)
-        → AreCounted running.new founding.now learning.now.courses.held learning.now.registrations.held
+        → AreCounted running.new founding.now learning.now.editions.held learning.now.registrations.held
         (before ++ mark statement.now true ∷ behind) }
 {
     if let Some(number) = number_named(&learning.registrations, statement) {
@@ -469,9 +468,9 @@ fn discount_in(
 )
     requires { number_named statement.now learning.now.registrations.held ≡ Some number }
     ensures { (before behind : List MarkedStatement)
-        → AreCounted running.old founding.now learning.now.courses.held learning.now.registrations.held
+        → AreCounted running.old founding.now learning.now.editions.held learning.now.registrations.held
         (before ++ mark statement.now false ∷ behind)
-        → AreCounted running.new founding.now learning.now.courses.held learning.now.registrations.held
+        → AreCounted running.new founding.now learning.now.editions.held learning.now.registrations.held
         (before ++ mark statement.now true ∷ behind) }
 {
     if let Some(enrolment) = enrolment_at(founding, learning, number) {

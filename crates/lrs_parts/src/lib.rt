@@ -13,10 +13,11 @@ mod trees;
 
 pub use cmi5_running_verdicts::{Enrolment, push_if};
 pub use lrs_state::{
-    Acceptance, Courses, CoursesChange, Effect, Founding, HeldKey, HeldProvider, HeldRegistration,
-    HeldSession, HeldToken, KeysChange, LaunchesChange, Learner, Learning, MadeSession,
-    MadeSessionsChange, ProvidersChange, Registrations, RegistrationsChange, SessionsChange,
-    TokensChange, course_id, index_of_course, is_admin, is_base, is_learner, is_name, is_token,
+    Acceptance, Courses, CoursesChange, Edition, Editions, EditionsChange, Effect, Founding,
+    HeldCourse, HeldKey, HeldProvider, HeldRegistration, HeldSession, HeldToken, KeysChange,
+    LaunchesChange, Learner, Learning, MadeSession, MadeSessionsChange, ProvidersChange,
+    Registrations, RegistrationsChange, SessionsChange, TokensChange, course_id, index_meant,
+    is_admin, is_base, is_learner, is_name, is_token, newest_edition,
 };
 pub use parts::Parts;
 pub use progress::Progress;

@@ -59,7 +59,7 @@ impl Model for Parts {
       last = p.last;
     } };
 
-    ghost invariant = { λ p. IsUpToDate p.progress p.founding p.learning.courses.held p.learning.registrations.held
+    ghost invariant = { λ p. IsUpToDate p.progress p.founding p.learning.editions.held p.learning.registrations.held
         p.statements.held };
 }
 
@@ -86,7 +86,7 @@ impl Parts {
     }
 
     /// Makes room for an effect in each part. There is none if the entries can't be counted any more, and none for one
-    /// that no command has: that replaces a course or a registration, or brings a registration without its course.
+    /// that no command has: that replaces an edition or a registration, or brings a registration without its edition.
     /// The texts of its first statements may have been written before: they are taken over.
     pub fn ready(
         &mut self,
@@ -136,6 +136,7 @@ impl Parts {
             providers,
             statements,
             documents,
+            editions,
             courses,
             registrations,
             launches,
@@ -147,7 +148,7 @@ impl Parts {
             acceptance: _,
         } = effect;
         found(&mut self.founding, founding);
-        self.learning.courses.install(courses);
+        self.learning.editions.install(editions);
         enrol_new(&mut self.progress.running, &registrations.new);
         self.learning.registrations.install(registrations);
         let voided = take_in_each(
@@ -164,6 +165,7 @@ impl Parts {
         self.learning.made_sessions.install(made_sessions);
         self.learning.keys.install(keys);
         self.learning.tokens.install(tokens);
+        self.learning.courses.install(courses);
         self.length += 1;
         self.last = moment;
         SpentEffect { statements, voided }

@@ -22,7 +22,7 @@ use crate::following::enrolment_in;
 use cmi5_running_verdicts::{Enrolment, Index};
 use lrs_json::Memory;
 use lrs_state::{
-    Courses, Effect, Founding, HeldRegistration, Learning, Providers, RegistrationsChange,
+    Editions, Effect, Founding, HeldRegistration, Learning, Providers, RegistrationsChange,
 };
 use std::vec::IntoIter;
 use xapi_docs::Docs;
@@ -30,83 +30,83 @@ use xapi_statement::ReceivedText;
 
 // ---- what is kept of progress
 
-/// Makes room for an effect in what is kept of progress. There is none if it replaces a course or a registration, or if
-/// a registration comes without its course: no command does that.
+/// Makes room for an effect in what is kept of progress. There is none if it replaces an edition or a registration, or
+/// if a registration comes without its edition: no command does that.
 pub(crate) fn ready_progress(
     progress: &mut Progress,
     founding: &Option<Founding>,
-    courses: &Courses,
+    editions: &Editions,
     statements: &Index,
     effect: &Effect,
 ) -> Result<(), Memory>
     ensures made { room.MakesSlots effect.now.statements progress.old.sessions progress.new.sessions }
     ensures held { progress.new.running.held ≡ progress.old.running.held }
-    ensures ready { OnOk result (IsProgressReadyFor progress.new founding.now courses.now.held statements.now.held
+    ensures ready { OnOk result (IsProgressReadyFor progress.new founding.now editions.now.held statements.now.held
         effect.now) }
 {
-    let enrolment = enrolment_of_effect(founding, courses, effect)?;
+    let enrolment = enrolment_of_effect(founding, editions, effect)?;
     progress.ready(statements, effect.statements.as_slice(), enrolment.as_ref())
 }
 
 // What verdicts look at of a registration that comes, if one does.
 fn enrolment_of_effect<'a>(
     founding: &'a Option<Founding>,
-    courses: &'a Courses,
+    editions: &'a Editions,
     effect: &'a Effect,
 ) -> Result<Option<Enrolment<'a>>, Memory>
-    ensures courses { IfOk result (λ _. effect.now.courses.replaced ≡ None) }
+    ensures editions { IfOk result (λ _. effect.now.editions.replaced ≡ None) }
     ensures registrations { IfOk result (λ _. effect.now.registrations.replaced ≡ None) }
     ensures enrolment { IfOk result (λ e. (r : SpecRegistration) → effect.now.registrations.new ≡ Some r
-        → IsEnrolmentOf founding.now courses.now.held r (option_map seen e)) }
+        → IsEnrolmentOf founding.now editions.now.held r (option_map seen e)) }
     ensures behind { IfOk result (λ e. IfSome e (λ its. StandBehindHolders its.nodes.now)) }
 {
-    match &effect.courses.replaced {
+    match &effect.editions.replaced {
         Some(_) => Err(Memory),
-        None => enrolment_of_change(founding, courses, &effect.registrations),
+        None => enrolment_of_change(founding, editions, &effect.registrations),
     }
 }
 
 fn enrolment_of_change<'a>(
     founding: &'a Option<Founding>,
-    courses: &'a Courses,
+    editions: &'a Editions,
     change: &'a RegistrationsChange,
 ) -> Result<Option<Enrolment<'a>>, Memory>
     ensures registrations { IfOk result (λ _. change.now.replaced ≡ None) }
     ensures enrolment { IfOk result (λ e. (r : SpecRegistration) → change.now.new ≡ Some r
-        → IsEnrolmentOf founding.now courses.now.held r (option_map seen e)) }
+        → IsEnrolmentOf founding.now editions.now.held r (option_map seen e)) }
     ensures behind { IfOk result (λ e. IfSome e (λ its. StandBehindHolders its.nodes.now)) }
 {
     match &change.replaced {
         Some(_) => Err(Memory),
-        None => enrolment_of_new(founding, courses, &change.new),
+        None => enrolment_of_new(founding, editions, &change.new),
     }
 }
 
 fn enrolment_of_new<'a>(
     founding: &'a Option<Founding>,
-    courses: &'a Courses,
+    editions: &'a Editions,
     coming: &'a Option<HeldRegistration>,
 ) -> Result<Option<Enrolment<'a>>, Memory>
     ensures enrolment { IfOk result (λ e. (r : SpecRegistration) → coming.now ≡ Some r
-        → IsEnrolmentOf founding.now courses.now.held r (option_map seen e)) }
+        → IsEnrolmentOf founding.now editions.now.held r (option_map seen e)) }
     ensures behind { IfOk result (λ e. IfSome e (λ its. StandBehindHolders its.nodes.now)) }
 {
     match coming {
-        Some(registration) => enrolment_of(founding, courses, registration),
+        Some(registration) => enrolment_of(founding, editions, registration),
         None => Ok(None),
     }
 }
 
 fn enrolment_of<'a>(
     founding: &'a Option<Founding>,
-    courses: &'a Courses,
+    editions: &'a Editions,
     registration: &'a HeldRegistration,
 ) -> Result<Option<Enrolment<'a>>, Memory>
     ensures enrolment { IfOk result (λ e.
-        IsEnrolmentOf founding.now courses.now.held registration.now (option_map seen e)) }
+        IsEnrolmentOf founding.now editions.now.held registration.now (option_map seen e)) }
     ensures behind { IfOk result (λ e. IfSome e (λ its. StandBehindHolders its.nodes.now)) }
 {
-    match enrolment_in(founding, courses, registration) {
+    match enrolment_in(founding, editions, registration) {
         Some(enrolment) => Ok(Some(enrolment)),
         None => Err(Memory),
     }
@@ -133,7 +133,7 @@ pub(crate) fn ready_each(
     ensures same_statements { statements.new.held ≡ statements.old.held }
     ensures same_documents { documents_in documents.new ≡ documents_in documents.old }
     ensures same_learning { KeepsLearning learning.old learning.new }
-    ensures ready_progress { OnOk result (IsProgressReadyFor progress.new founding.now learning.old.courses.held
+    ensures ready_progress { OnOk result (IsProgressReadyFor progress.new founding.now learning.old.editions.held
         statements.old.held effect.now) }
     ensures ready_providers { OnOk result
         (HasRoomToCount (slice_cmp nat_cmp) token_of providers.new effect.now.providers) }
@@ -147,7 +147,7 @@ pub(crate) fn ready_each(
     ensures made_documents { MakesSlots key_cmp (is_written effect.now.documents) documents.old documents.new }
     ensures made_learning { MakesLearningSlots learning.old learning.new effect.now }
 {
-    ready_progress(progress, founding, &learning.courses, statements, effect)?;
+    ready_progress(progress, founding, &learning.editions, statements, effect)?;
     if entries == u64::MAX {
         return Err(Memory);
     }

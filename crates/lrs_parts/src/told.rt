@@ -63,7 +63,7 @@ impl Parts {
 // ---- registrations
 
 impl Parts {
-    /// Whether each node of the registration's course is satisfied, in the order of the text. The registration may be
+    /// Whether each node of the registration's edition is satisfied, in the order of the text. The registration may be
     /// one that is yet to be held.
     pub fn verdicts(
         &self,
@@ -71,7 +71,7 @@ impl Parts {
         registration: &HeldRegistration,
         enrolment: &Enrolment<'_>,
     ) -> Result<Vec<bool>, Memory>
-        requires enrolled { enrolment_in self.now.founding self.now.learning.courses.held registration.now
+        requires enrolled { enrolment_in self.now.founding self.now.learning.editions.held registration.now
             ≡ Some (seen enrolment.now) }
         ensures { IfOk result (λ told. told.items ≡ verdicts (seen enrolment.now) self.now.statements.held) }
     {
@@ -89,7 +89,7 @@ impl Parts {
         enrolment: &Enrolment<'_>,
         index: u32,
     ) -> Result<bool, Memory>
-        requires enrolled { enrolment_in self.now.founding self.now.learning.courses.held registration.now
+        requires enrolled { enrolment_in self.now.founding self.now.learning.editions.held registration.now
             ≡ Some (seen enrolment.now) }
         requires index { index < length enrolment.now.nodes.now }
         ensures { IfOk result (λ told. told ≡ stands self.now.statements.held enrolment.now.registration.now
@@ -110,7 +110,7 @@ impl Parts {
         enrolment: &Enrolment<'_>,
         new: &[StoredStatement],
     ) -> Result<Vec<u32>, Memory>
-        requires enrolled { enrolment_in self.now.founding self.now.learning.courses.held registration.now
+        requires enrolled { enrolment_in self.now.founding self.now.learning.editions.held registration.now
             ≡ Some (seen enrolment.now) }
         ensures { IfOk result (λ indices.
             indices.items ≡ owed (seen enrolment.now) (self.now.statements.held ++ new.now)) }
@@ -209,7 +209,7 @@ fn number_held(registrations: &Registrations, registration: &HeldRegistration) -
     }
 }
 
-// That number, if the one there is in the same course.
+// That number, if the one there is in the same edition.
 fn number_in(
     registrations: &Registrations,
     registration: &HeldRegistration,
@@ -219,7 +219,7 @@ fn number_in(
 {
     match registrations.get(number) {
         Some(held) => {
-            if is_in_same_course(held, registration) {
+            if is_in_same_edition(held, registration) {
                 Some(number)
             } else {
                 None
@@ -229,8 +229,8 @@ fn number_in(
     }
 }
 
-fn is_in_same_course(held: &HeldRegistration, registration: &HeldRegistration) -> bool
-    ensures { result ≡ (held.now.course == registration.now.course) }
+fn is_in_same_edition(held: &HeldRegistration, registration: &HeldRegistration) -> bool
+    ensures { result ≡ (held.now.edition == registration.now.edition) }
 {
-    held.course == registration.course
+    held.edition == registration.edition
 }

@@ -160,11 +160,13 @@ fn standing_of(alloc: Global, parts: &Parts, known: &LentEnrolled<'_>) -> Result
 {
     let verdicts = verdicts_of(alloc, parts, known)?;
     let registration = known.registration;
-    let course = known.course;
+    let edition = known.edition;
+    let course = edition.course();
     let body = standing_text(
         alloc,
         &registration.id,
         course.id().text(),
+        edition.number(),
         course.nodes(),
         verdicts.as_slice(),
     )?;

@@ -72,11 +72,14 @@ pub only_course : (w : Write) → write_name w ≡ codes "course" → (tree : Tr
 only_course (Course tree) named = (tree, refl)
 only_course w named = absurd (other _ _ refl named)
 
-abbrev pub enrol_of : List ℕ × Agent → Write
-enrol_of p = Enrol p.0 p.1
+abbrev pub Enrolled : Type 0
+Enrolled = List ℕ × (Agent × Option ℕ)
 
-pub only_enrol : (w : Write) → write_name w ≡ codes "enrol" → (p : List ℕ × Agent) × (enrol_of p ≡ w)
-only_enrol (Enrol course actor) named = ((course, actor), refl)
+abbrev pub enrol_of : Enrolled → Write
+enrol_of p = Enrol p.0 p.1.0 p.1.1
+
+pub only_enrol : (w : Write) → write_name w ≡ codes "enrol" → (p : Enrolled) × (enrol_of p ≡ w)
+only_enrol (Enrol course actor edition) named = ((course, (actor, edition)), refl)
 only_enrol w named = absurd (other _ _ refl named)
 
 abbrev pub Launched : Type 0
@@ -134,6 +137,10 @@ apart_drop activity agent None (Some state) = refl
 apart_drop activity agent (Some id) None = refl
 apart_drop activity agent (Some id) (Some state) = refl
 
+apart_enrol : (course : List ℕ) (actor : Agent) (edition : Option ℕ) → are_apart [] (write_fields (Enrol course actor edition)) ≡ true
+apart_enrol course actor None = refl
+apart_enrol course actor (Some number) = refl
+
 apart_launch : (registration unit : List ℕ) (mode : Mode) (return_url : Option (List ℕ)) → are_apart [] (write_fields (Launch registration unit mode return_url)) ≡ true
 apart_launch registration unit mode None = refl
 apart_launch registration unit mode (Some address) = refl
@@ -146,7 +153,7 @@ well_named (Post statements) = refl
 well_named (State h key media bytes) = apart_state h key.activity key.agent key.registration key.state media bytes
 well_named (Drop activity agent registration state) = apart_drop activity agent registration state
 well_named (Course tree) = refl
-well_named (Enrol course actor) = refl
+well_named (Enrol course actor edition) = apart_enrol course actor edition
 well_named (Launch registration unit mode return_url) = apart_launch registration unit mode return_url
 well_named (Fetch key) = refl
 well_named (Waive registration unit reason) = refl
@@ -219,7 +226,9 @@ told_put : AreTold (λ p. write_fields (put_of p))
 told_put = told_next (codes "id") id_value (λ statement. (codes "statement", tree_value statement) ∷ []) id_told (told_last (codes "statement") tree_value tree_told)
 
 told_enrol : AreTold (λ p. write_fields (enrol_of p))
-told_enrol = told_next (codes "course") iri_value (λ actor. (codes "actor", actor_value actor) ∷ []) iri_told (told_last (codes "actor") actor_value actor_told)
+told_enrol =
+    told_next (codes "course") iri_value (λ (p : Agent × Option ℕ). (codes "actor", actor_value p.0) ∷ optional_field (codes "edition") number_value p.1) iri_told
+    (told_next (codes "actor") actor_value (optional_field (codes "edition") number_value) actor_told (told_maybe_last (codes "edition") number_value number_told))
 
 -- ---- a name and its members tell the write
 
@@ -238,7 +247,7 @@ told_write (Post statements) = told (codes "post") Post only_post (told_last (co
 told_write (State h key media bytes) = told (codes "state") state_from only_parts told_state (h, (key.activity, (key.agent, (key.registration, (key.state, (media, bytes))))))
 told_write (Drop activity agent registration state) = told (codes "drop") drop_of only_drop told_drop (activity, (agent, (registration, state)))
 told_write (Course tree) = told (codes "course") Course only_course (told_last (codes "tree") tree_value tree_told) tree
-told_write (Enrol course actor) = told (codes "enrol") enrol_of only_enrol told_enrol (course, actor)
+told_write (Enrol course actor edition) = told (codes "enrol") enrol_of only_enrol told_enrol (course, (actor, edition))
 told_write (Launch registration unit mode return_url) = told (codes "launch") launch_of only_launch told_launch (registration, (unit, (mode, return_url)))
 told_write (Fetch key) = told (codes "fetch") Fetch only_fetch (told_last (codes "key") text_value text_told) key
 told_write (Waive registration unit reason) = told (codes "waive") waive_of only_waive told_waive (registration, (unit, reason))

@@ -35,7 +35,7 @@ write_area (Post statements) = Store
 write_area (State h key media bytes) = Store
 write_area (Drop activity agent registration state) = Store
 write_area (Course tree) = Desk
-write_area (Enrol course actor) = Desk
+write_area (Enrol course actor edition) = Desk
 write_area (Launch registration unit mode return_url) = Desk
 write_area (Fetch key) = Free
 write_area (Waive registration unit reason) = Desk
@@ -57,7 +57,7 @@ write_name (Post statements) = codes "post"
 write_name (State h key media bytes) = codes "state"
 write_name (Drop activity agent registration state) = codes "drop"
 write_name (Course tree) = codes "course"
-write_name (Enrol course actor) = codes "enrol"
+write_name (Enrol course actor edition) = codes "enrol"
 write_name (Launch registration unit mode return_url) = codes "launch"
 write_name (Fetch key) = codes "fetch"
 write_name (Waive registration unit reason) = codes "waive"
@@ -79,7 +79,9 @@ write_fields (Drop activity agent registration state) =
     (codes "activity", iri_value activity) ∷ (codes "agent", agent_value agent)
     ∷ (optional_field (codes "registration") id_value registration ++ optional_field (codes "state") text_value state)
 write_fields (Course tree) = (codes "tree", tree_value tree) ∷ []
-write_fields (Enrol course actor) = (codes "course", iri_value course) ∷ (codes "actor", actor_value actor) ∷ []
+write_fields (Enrol course actor edition) =
+    (codes "course", iri_value course) ∷ (codes "actor", actor_value actor)
+    ∷ optional_field (codes "edition") number_value edition
 write_fields (Launch registration unit mode return_url) =
     (codes "registration", id_value registration) ∷ (codes "unit", iri_value unit)
     ∷ (codes "mode", text_value (mode_text mode)) ∷ optional_field (codes "returnURL") iri_value return_url

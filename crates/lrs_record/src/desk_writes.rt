@@ -13,14 +13,43 @@ ghost use Rattle.lrs_record.specs.declared.entry.Write.TheVariants as write;
 
 use crate::Write;
 use cmi5_course::{Mode, Reason};
+use lrs_agents::Agent;
 use lrs_fields::{
-    Lent, actor_behind, id_behind, iri_behind, number_behind, optional_iri_behind, put_fields,
-    text_behind, tree_behind,
+    Lent, actor_behind, id_behind, iri_behind, number_behind, optional_iri_behind,
+    optional_number_behind, put_fields, text_behind, tree_behind,
 };
 use lrs_json::Memory;
 use lrs_json_reader::Stop;
 use lrs_json_written::Cursor;
 use lrs_names::{Id, Iri};
+
+/// Appends the fields of an enrolment, and the closing brace.
+pub fn put_enrol<'a>(
+    course: &'a Iri,
+    actor: &'a Agent,
+    edition: Option<u32>,
+    into: &mut Vec<u8>,
+) -> Result<(), Memory>
+    ensures ok { OnOk result (into.new.items ≡ into.old.items ++ members_text false
+        (members_of (members_for (write_fields (write.Enrol course.now actor.now edition))))) }
+    ensures kept { Extends into.old.items into.new.items }
+    ensures holds { OnOk result (HoldsWrite (write.Enrol course.now actor.now edition)) }
+{
+    match edition {
+        Some(number) => put_fields(
+            &[
+                ("course", Lent::Iri(course)),
+                ("actor", Lent::Actor(actor)),
+                ("edition", Lent::Number(number)),
+            ],
+            into,
+        ),
+        None => put_fields(
+            &[("course", Lent::Iri(course)), ("actor", Lent::Actor(actor))],
+            into,
+        ),
+    }
+}
 
 /// Appends the fields of a launch, and the closing brace.
 pub fn put_launch(
@@ -88,7 +117,7 @@ pub fn read_provider(cursor: &mut Cursor<'_>) -> Result<Write, Stop>
     Ok(Write::Provider { name })
 }
 
-/// A course that is taken up.
+/// A course that is taken up, or a new edition of it.
 pub fn read_course(cursor: &mut Cursor<'_>) -> Result<Write, Stop>
     ensures { ReadsWrite (codes "course") cursor.old result cursor.new }
 {
@@ -102,7 +131,12 @@ pub fn read_enrol(cursor: &mut Cursor<'_>) -> Result<Write, Stop>
 {
     let course = iri_behind(b"\"course\":", cursor)?;
     let actor = actor_behind(b",\"actor\":", cursor)?;
-    Ok(Write::Enrol { course, actor })
+    let edition = optional_number_behind(b",\"edition\":", cursor)?;
+    Ok(Write::Enrol {
+        course,
+        actor,
+        edition,
+    })
 }
 
 /// A unit that is launched.

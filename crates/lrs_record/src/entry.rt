@@ -8,8 +8,8 @@ ghost use Rattle.lrs_record.specs.Writes.{how_of, how_text, write_area, write_fi
 
 use crate::Moment;
 use crate::desk_writes::{
-    put_launch, put_waive, read_abandon, read_course, read_enrol, read_fetch, read_found,
-    read_launch, read_provider, read_sweep, read_waive,
+    put_enrol, put_launch, put_waive, read_abandon, read_course, read_enrol, read_fetch,
+    read_found, read_launch, read_provider, read_sweep, read_waive,
 };
 use crate::store_writes::{put_drop, put_state, read_drop, read_post, read_put, read_state};
 use cmi5_course::{Mode, Reason};
@@ -68,7 +68,7 @@ pub enum Write {
         registration: Option<Id>,
         state: Option<Text>,
     },
-    /// Takes a course up.
+    /// Takes a course up, or a new edition of it.
     Course {
         tree: Tree,
     },
@@ -76,8 +76,10 @@ pub enum Write {
     Enrol {
         course: Iri,
         actor: Agent,
+        /// In the edition of this number; if it names none, in the newest.
+        edition: Option<u32>,
     },
-    /// Launches a unit, by its publisher's id, of a registration's course.
+    /// Launches a unit, by its publisher's id, of a registration's edition.
     Launch {
         registration: Id,
         unit: Iri,
@@ -89,7 +91,7 @@ pub enum Write {
     Fetch {
         key: Text,
     },
-    /// Waives a unit, by its publisher's id, of a registration's course.
+    /// Waives a unit, by its publisher's id, of a registration's edition.
     Waive {
         registration: Id,
         unit: Iri,
@@ -244,12 +246,11 @@ impl Write {
                 state,
             } => put_drop(activity, agent, registration, state, into),
             Write::Course { tree } => put_fields(&[("tree", Lent::Tree(tree))], into),
-            Write::Enrol { course, actor } => {
-                put_fields(
-                    &[("course", Lent::Iri(course)), ("actor", Lent::Actor(actor))],
-                    into,
-                )
-            }
+            Write::Enrol {
+                course,
+                actor,
+                edition,
+            } => put_enrol(course, actor, *edition, into),
             Write::Launch {
                 registration,
                 unit,

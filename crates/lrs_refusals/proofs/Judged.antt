@@ -6,7 +6,7 @@ use Rattle.std.specs.Option.{option_or}
 use Rattle.cmi5_course.specs.Rules as course
 use Rattle.lrs_rules.specs.declared.rule.Rule.TheVariants as rule
 use Rattle.lrs_refusals.specs.Judged.{IsJudged, IsJudgedTree}
-use Rattle.lrs_made.specs.LrsHistoryRefusals.{bad_form, broken, broken_in, is_too_large, other_id, refused_batch, refused_course, refused_form}
+use Rattle.lrs_made.specs.LrsHistoryRefusals.{bad_form, broken, broken_in, is_too_large, other_id, refused_actor, refused_batch, refused_course, refused_edition, refused_form}
 use Rattle.lrs_json.specs.Json.{Json}
 use Rattle.lrs_json.specs.View.{view}
 use Rattle.lrs_json.specs.declared.tree.Tree.{Tree}
@@ -14,6 +14,7 @@ use Rattle.lrs_record.specs.Entries.{IsLawfulWrite}
 use Rattle.lrs_record.specs.declared.entry.Write.{Write}
 use Rattle.lrs_record.specs.declared.entry.Write.TheVariants.{Found, Put, Post, Enrol}
 use Rattle.lrs_record.specs.declared.entry.Write.TheVariants as write
+use Rattle.lrs_replies.specs.declared.answered.Refusal.{Refusal}
 use Rattle.lrs_replies.specs.declared.answered.Refusal.TheVariants.{Broken, TooLong}
 use Rattle.xapi_index.specs.Batches.{given_ids}
 use Rattle.lrs_made.specs.LrsStateLearners.{is_learner}
@@ -74,6 +75,10 @@ formed_actor : (b : Bool) → when (not b) (Broken (rule.B 3)) ≡ None → b �
 formed_actor true is = refl
 formed_actor false is = cc is
 
+first_none : (o p : Option Refusal) → option_or o p ≡ None → o ≡ None
+first_none None p is = refl
+first_none (Some r) p is = cc is
+
 -- ---- the whole
 
 pub judged_form : (w : Write) → IsLawfulWrite w → bad_form w ≡ None → IsJudged w
@@ -81,5 +86,6 @@ judged_form (Found admin base) lawful none = cc none
 judged_form (Put id statement) lawful none = formed id statement none
 judged_form (Post statements) lawful none = formed_batch statements none
 judged_form (write.Course tree) lawful none = (lawful.0.0, formed_course (view tree) none)
-judged_form (Enrol course actor) lawful none = formed_actor (is_learner actor) none
+judged_form (Enrol course actor edition) lawful none =
+    formed_actor (is_learner actor) (first_none (refused_actor actor) (refused_edition edition) none)
 judged_form other lawful none = tt

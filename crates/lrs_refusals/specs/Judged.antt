@@ -22,5 +22,5 @@ IsJudged (Found admin base) = IsBase base
 IsJudged (Put id statement) = IsJudgedTree statement
 IsJudged (Post statements) = AllByRecursion IsJudgedTree statements
 IsJudged (write.Course tree) = Fits (view tree) × (course.broken_rule (view tree) ≡ None)
-IsJudged (Enrol course actor) = IsTrue (is_learner actor)
+IsJudged (Enrol course actor edition) = IsTrue (is_learner actor)
 IsJudged other = Unit {0}

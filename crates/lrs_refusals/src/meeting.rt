@@ -352,41 +352,35 @@ fn refused_behind(
 {
     let mut session = session;
     for at in 0..statements.len() {
-        let behind = behind_one(alloc, parts, session, &ids[at], &statements[at], held)?;
-        match behind {
-            Ok(next) => session = next,
-            Err(refusal) => return Ok(Some(refusal)),
+        let id = &ids[at];
+        let statement = &statements[at];
+        let meeting = meet_one(alloc, parts, &session, statement, held)?;
+        let Meeting { refused, is_held } = meeting;
+        match refused {
+            None => session = session_behind(parts, session, id, statement, is_held),
+            Some(refusal) => return Ok(Some(refusal)),
         }
     }
     Ok(None)
 }
 
-// The session behind its next statement, which goes under that id, or why that isn't kept. Whether one is held under
-// its own id is noted.
-fn behind_one<'a>(
+// What the next statement of a session meets. Whether one is held under its own id is noted.
+fn meet_one(
     alloc: Global,
     parts: &Parts,
-    session: SessionView<'a>,
-    id: &Id,
+    session: &SessionView<'_>,
     statement: &Tree,
     held: &mut Items<bool>,
-) -> Result<Result<SessionView<'a>, Refusal>, Memory>
-    requires lawful { IsLawfulTree (view statement.now) }
-    requires told { IsTold (state_of parts.now) (record { id = id.now; tree = statement.now }) }
-    ensures refused { IfOk result (λ behind. MatchResult behind
-        (λ next. (refused_next (state_of parts.now) (seen session.entry) statement.now ≡ None)
-        × (seen next ≡ session_behind (state_of parts.now) (seen session.entry)
-        (record { id = id.now; tree = statement.now })))
-        (λ refusal. refused_next (state_of parts.now) (seen session.entry) statement.now ≡ Some refusal)) }
+) -> Result<Meeting, Memory>
+    requires { IsLawfulTree (view statement.now) }
+    ensures refused { IfOk result (λ m. m.refused
+        ≡ refused_next (state_of parts.now) (seen session.now) statement.now) }
+    ensures own { IfOk result (λ m. m.is_held ≡ is_own_held (state_of parts.now) statement.now) }
     ensures held { OnOk result (held.new ≡ held.old ++ is_own_held (state_of parts.now) statement.now ∷ []) }
 {
-    let meeting = meeting_in(alloc, parts, &session, statement)?;
-    let Meeting { refused, is_held } = meeting;
-    held.push(is_held)?;
-    match refused {
-        Some(refusal) => Ok(Err(refusal)),
-        None => Ok(Ok(session_behind(parts, session, id, statement, is_held))),
-    }
+    let meeting = meeting_in(alloc, parts, session, statement)?;
+    held.push(meeting.is_held)?;
+    Ok(meeting)
 }
 
 // What the next statement of a session meets, under its own id or a made one.

@@ -5,6 +5,8 @@ ghost use Rattle.lrs_made.specs.LrsHistoryLaunches.{target};
 ghost use Rattle.lrs_made.specs.LrsHistoryRefusals.{bad_form, conflict, missing, refusal, refusal_at, unless_there, unmergeable, unmergeable_with};
 ghost use Rattle.lrs_made.specs.LrsHistoryWhose.{who_is};
 ghost use Rattle.lrs_made.specs.LrsPartsParts.{state_of};
+ghost use Rattle.lrs_made.specs.LrsStateCourses.{index_meant};
+ghost use Rattle.lrs_made.specs.LrsStateLaunches.{index_of_session, key_under};
 ghost use Rattle.lrs_record.specs.Entries.{IsLawfulWrite};
 ghost use Rattle.lrs_refusals.specs.Judged.{IsJudged};
 ghost use Rattle.lrs_refusals.specs.Known.{IsKnown};
@@ -12,7 +14,7 @@ ghost use Rattle.lrs_refusals.specs.Meeting.{occasion_of};
 ghost use Rattle.lrs_refusals.specs.Submissions.{IsWrittenIf};
 
 use crate::Known;
-use crate::courses::{course_conflict, refused_course};
+use crate::courses::refused_course;
 use crate::forms::{refused_batch, refused_form};
 use crate::meeting::{refused_put, refused_together};
 use crate::whose::barred_document;
@@ -20,7 +22,7 @@ use crate::written::PreparedTexts;
 use lrs_command::Who;
 use lrs_json::{Memory, Text};
 use lrs_made::{
-    Parts, barred, index_of_course, refused_actor, refused_agent, refused_document, refused_idle,
+    Parts, barred, index_meant, refused_agent, refused_document, refused_enrolment, refused_idle,
     refused_name, target,
 };
 use lrs_media::is_json;
@@ -81,7 +83,7 @@ fn refusal_of(
     if let Some(refusal) = barred_document(parts, who, write) {
         return Ok(Some(refusal));
     }
-    if let Some(refusal) = missing(parts, write) {
+    if let Some(refusal) = missing(parts, write)? {
         return Ok(Some(refusal));
     }
     if let Some(refusal) = unmergeable(alloc, parts, write)? {
@@ -122,42 +124,78 @@ pub(crate) fn bad_form(alloc: Global, write: &Write) -> Result<Option<Refusal>, 
         } => Ok(refused_document(&key.agent, media, bytes.as_slice())),
         Write::Drop { agent, .. } => Ok(refused_agent(agent)),
         Write::Course { tree } => refused_course(alloc, tree),
-        Write::Enrol { actor, .. } => Ok(refused_actor(actor)),
+        Write::Enrol { actor, edition, .. } => Ok(refused_enrolment(actor, *edition)),
         Write::Sweep { idle } => Ok(refused_idle(*idle)),
         Write::Launch { .. } | Write::Fetch { .. } | Write::Waive { .. } | Write::Abandon { .. } =>
             Ok(None),
     }
 }
 
-// Why a write doesn't find what it speaks of: the course of an enrolment, the registration or the unit of a launch or
-// a waiver, the key of a fetch, the session that is abandoned.
-fn missing(parts: &Parts, write: &Write) -> Option<Refusal>
-    ensures { result ≡ missing (state_of parts.now) write.now }
+// Why a write doesn't find what it speaks of: the course of an enrolment or the edition of it that it names, the
+// registration or the unit of a launch or a waiver, the key of a fetch, the session that is abandoned.
+fn missing(parts: &Parts, write: &Write) -> Result<Option<Refusal>, Memory>
+    ensures { IfOk result (λ refused. refused ≡ missing (state_of parts.now) write.now) }
 {
     match write {
-        Write::Enrol { course, .. } => match index_of_course(&parts.learning.courses, course) {
-            Some(_) => None,
-            None => Some(Refusal::NotFound),
-        },
+        Write::Enrol {
+            course,
+            edition,
+            ..
+        } => missing_edition(parts, course, *edition),
         Write::Launch {
             registration,
             unit,
             ..
-        } => missing_unit(parts, registration, unit),
-        Write::Fetch { key } => match parts.learning.keys.find(key) {
-            Some(_) => None,
-            None => Some(Refusal::NotFound),
-        },
+        } => Ok(missing_unit(parts, registration, unit)),
+        Write::Fetch { key } => Ok(missing_key(parts, key)),
         Write::Waive {
             registration,
             unit,
             ..
-        } => missing_unit(parts, registration, unit),
-        Write::Abandon { session } => match parts.learning.launches.index_of(session) {
-            Some(_) => None,
-            None => Some(Refusal::NotFound),
-        },
-        _ => None,
+        } => Ok(missing_unit(parts, registration, unit)),
+        Write::Abandon { session } => Ok(missing_session(parts, session)),
+        _ => Ok(None),
+    }
+}
+
+// The course of an enrolment, or the edition of it that it names.
+fn missing_edition(
+    parts: &Parts,
+    course: &Iri,
+    edition: Option<u32>,
+) -> Result<Option<Refusal>, Memory>
+    ensures { IfOk result (λ refused. refused ≡ unless_there (index_meant course.now edition
+        (state_of parts.now).courses (state_of parts.now).editions)) }
+{
+    let learning = &parts.learning;
+    match index_meant(
+        &learning.courses,
+        &learning.editions,
+        course.text(),
+        edition,
+    )? {
+        Some(_) => Ok(None),
+        None => Ok(Some(Refusal::NotFound)),
+    }
+}
+
+// The key of a fetch.
+fn missing_key(parts: &Parts, key: &Text) -> Option<Refusal>
+    ensures { result ≡ unless_there (key_under key.now (state_of parts.now).keys) }
+{
+    match parts.learning.keys.find(key) {
+        Some(_) => None,
+        None => Some(Refusal::NotFound),
+    }
+}
+
+// The session that is abandoned.
+fn missing_session(parts: &Parts, session: &Id) -> Option<Refusal>
+    ensures { result ≡ unless_there (index_of_session session.now (state_of parts.now).launches) }
+{
+    match parts.learning.launches.index_of(session) {
+        Some(_) => None,
+        None => Some(Refusal::NotFound),
     }
 }
 
@@ -232,7 +270,6 @@ fn conflict(
         Write::Post { statements } => {
             refused_together(alloc, parts, who, draw, statements.as_slice(), known)
         }
-        Write::Course { tree } => course_conflict(alloc, parts, tree),
         _ => Ok(None),
     }
 }

@@ -1,15 +1,13 @@
 -- What a reply to a command says: its status, the type of its body and the body's bytes.
 use Rattle.std.specs.Prelude.{◌≡◌, ◌⊎◌, ℕ, List, [], ◌++◌, Option, Result, Ok, Err, None, codes}
 use Rattle.std.specs.Fmt.{decimal}
-use Rattle.lrs_json.specs.Json.{string}
-use Rattle.lrs_json.specs.Written.{written}
 use Rattle.lrs_names.specs.Ids.{id_text}
 use Rattle.lrs_rules.specs.Rules.{rule_text}
 use Rattle.lrs_rules.specs.declared.rule.Rule.TheVariants as rule
 use Rattle.lrs_replies.specs.declared.answered.Answered.{Answered}
 use Rattle.lrs_replies.specs.declared.answered.Answered.TheVariants.{Kept, Same, Shown, Document, Refused}
 use Rattle.lrs_replies.specs.declared.answered.Refusal.{Refusal}
-use Rattle.lrs_replies.specs.declared.answered.Refusal.TheVariants.{Conflict, CourseConflict, Full, Broken, TooLong}
+use Rattle.lrs_replies.specs.declared.answered.Refusal.TheVariants.{Conflict, Full, Broken, TooLong}
 use Rattle.lrs_replies.specs.declared.answered.Refusal.TheVariants.{Unauthorized, Forbidden, NotFound}
 use Rattle.lrs_replies.specs.declared.reply.Reply.{Reply}
 use Rattle.lrs_replies.specs.declared.reply.Media.{Media}
@@ -21,7 +19,6 @@ use Rattle.lrs_replies.specs.declared.reply.Trouble.TheVariants as trouble
 
 abbrev pub refusal_status : Refusal → ℕ
 refusal_status (Conflict id) = 409
-refusal_status (CourseConflict id) = 409
 refusal_status (Full need limit) = 507
 refusal_status (Broken rule) = 400
 refusal_status TooLong = 413
@@ -50,7 +47,6 @@ error_body error more = codes "{\"error\":\"" ++ error ++ codes "\"" ++ more ++ 
 
 abbrev pub refusal_body : Refusal → List ℕ
 refusal_body (Conflict id) = error_body (codes "409") (codes ",\"id\":\"" ++ id_text id ++ codes "\"")
-refusal_body (CourseConflict id) = error_body (codes "409") (codes ",\"id\":" ++ written (string id))
 refusal_body (Full need limit) =
     error_body (codes "507") (codes ",\"need\":" ++ decimal need ++ codes ",\"limit\":" ++ decimal limit)
 refusal_body (Broken rule) = error_body (rule_text rule) []

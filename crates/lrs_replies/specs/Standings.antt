@@ -1,6 +1,7 @@
--- How far the learner of a registration has come, as the desk tells it: the nodes of the course in their order, and
+-- How far the learner of a registration has come, as the desk tells it: the nodes of its edition in their order, and
 -- which of them are satisfied.
 use Rattle.std.specs.Prelude.{ℕ, List, [], ◌∷◌, ◌++◌, map, Bool, true, false, codes}
+use Rattle.std.specs.Fmt.{decimal}
 use Rattle.std.specs.List.{zip}
 use Rattle.cmi5_course.specs.declared.course.NodeKind.{NodeKind}
 use Rattle.cmi5_course.specs.declared.course.NodeKind.TheVariants.{Course, Block, Unit as UnitKind}
@@ -43,9 +44,10 @@ abbrev pub is_course_satisfied : List SeenNode → Bool
 is_course_satisfied [] = false
 is_course_satisfied (node ∷ nodes) = node.satisfied
 
--- {"registration":"R","course":ID,"satisfied":B,"nodes":[NODE,NODE]}
-abbrev pub standing_body : List ℕ → List ℕ → List SeenNode → List ℕ
-standing_body registration course nodes =
+-- {"registration":"R","course":ID,"edition":E,"satisfied":B,"nodes":[NODE,NODE]}
+abbrev pub standing_body : List ℕ → List ℕ → ℕ → List SeenNode → List ℕ
+standing_body registration course edition nodes =
     codes "{\"registration\":\"" ++ id_text registration ++ codes "\",\"course\":" ++ written (string course)
+    ++ codes ",\"edition\":" ++ decimal edition
     ++ codes ",\"satisfied\":" ++ written (boolean (is_course_satisfied nodes)) ++ codes ",\"nodes\":["
     ++ nodes_text false nodes ++ codes "}"

@@ -36,9 +36,10 @@ states_body states = written (array (elements_of (map string states)))
 
 -- ---- the desk
 
--- {"course":"ID"}
-abbrev pub course_body : List ℕ → List ℕ
-course_body id = codes "{\"course\":" ++ written (string id) ++ codes "}"
+-- {"course":"ID","edition":E}
+abbrev pub course_body : List ℕ → ℕ → List ℕ
+course_body id edition =
+    codes "{\"course\":" ++ written (string id) ++ codes ",\"edition\":" ++ decimal edition ++ codes "}"
 
 -- {"registration":"R"}
 abbrev pub registration_body : List ℕ → List ℕ

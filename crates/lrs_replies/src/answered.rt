@@ -30,8 +30,6 @@ pub enum Answered {
 pub enum Refusal {
     /// Another statement is held under that id.
     Conflict(Id),
-    /// Another course is held under that id, an IRI.
-    CourseConflict(Text),
     /// The journal's file would have more bytes than it may.
     Full { need: u64, limit: u64 },
     /// Its form breaks this rule.

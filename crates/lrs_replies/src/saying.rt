@@ -1,15 +1,12 @@
 // The replies that say what the store says.
 ghost use Rattle.std.specs.Prelude.{◌≡◌, ◌++◌, [], codes, IfOk, Ok, Err};
 ghost use Rattle.std.specs.Fmt.{decimal};
-ghost use Rattle.lrs_json.specs.Json.{string};
-ghost use Rattle.lrs_json.specs.Written.{written};
 ghost use Rattle.lrs_names.specs.Ids.{id_text};
 ghost use Rattle.lrs_rules.specs.Rules.{rule_text};
 ghost use Rattle.lrs_replies.specs.Replies.{Says, IsReplyTo, status_of, status_in, refusal_status, refusal_body, error_body};
 
 use crate::{Answered, Body, Media, Refusal, Reply, Trouble};
-use lrs_json::appending::put_quoted;
-use lrs_json::{Items, Memory, Text};
+use lrs_json::{Items, Memory};
 use lrs_names::Id;
 use lrs_rules::Rule;
 use std::alloc::Global;
@@ -37,7 +34,7 @@ impl Refusal {
         ensures { result ≡ refusal_status self.now }
     {
         match self {
-            Refusal::Conflict(_) | Refusal::CourseConflict(_) => 409,
+            Refusal::Conflict(_) => 409,
             Refusal::Full { need: _, limit: _ } => 507,
             Refusal::Broken(_) => 400,
             Refusal::TooLong => 413,
@@ -52,7 +49,6 @@ impl Refusal {
     {
         match self {
             Refusal::Conflict(id) => conflict_body(alloc, id),
-            Refusal::CourseConflict(id) => course_conflict_body(alloc, id),
             Refusal::Full { need, limit } => full_body(alloc, *need, *limit),
             Refusal::Broken(rule) => rule_body(alloc, *rule),
             Refusal::TooLong => error_body(alloc, b"413", &[]),
@@ -81,15 +77,6 @@ fn conflict_body(alloc: Global, id: &Id) -> Result<Vec<u8>, Memory>
     let mut more = b",\"id\":\"".to_vec(alloc)?;
     more.extend_from_slice(&id.text())?;
     more.extend_from_slice(b"\"")?;
-    error_body(alloc, b"409", &more)
-}
-
-fn course_conflict_body(alloc: Global, id: &Text) -> Result<Vec<u8>, Memory>
-    ensures { IfOk result (λ body. body.items
-        ≡ error_body (codes "409") (codes ",\"id\":" ++ written (string id.now))) }
-{
-    let mut more = b",\"id\":".to_vec(alloc)?;
-    put_quoted(id.as_str(), &mut more)?;
     error_body(alloc, b"409", &more)
 }
 

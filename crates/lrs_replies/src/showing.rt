@@ -100,12 +100,15 @@ pub fn states_text(alloc: Global, states: &[Text]) -> Result<Vec<u8>, Memory>
     Ok(body)
 }
 
-/// The body that tells the id of a course, an IRI.
-pub fn course_text(alloc: Global, id: &Text) -> Result<Vec<u8>, Memory>
-    ensures { IfOk result (λ body. body.items ≡ course_body id.now) }
+/// The body that tells the id of a course, an IRI, and the number of an edition of it.
+pub fn course_text(alloc: Global, id: &Text, edition: u32) -> Result<Vec<u8>, Memory>
+    ensures { IfOk result (λ body. body.items ≡ course_body id.now edition) }
 {
+    let edition = edition.to_string(alloc)?;
     let mut body = b"{\"course\":".to_vec(alloc)?;
     put_quoted(id.as_str(), &mut body)?;
+    body.extend_from_slice(b",\"edition\":")?;
+    body.extend_from_slice(edition.as_bytes())?;
     body.push(b'}')?;
     Ok(body)
 }

@@ -1,5 +1,6 @@
 // The body that tells how far the learner of a registration has come.
 ghost use Rattle.std.specs.Prelude.{◌≡◌, ◌++◌, false, IfOk, OnOk, codes};
+ghost use Rattle.std.specs.Fmt.{decimal};
 ghost use Rattle.lrs_json.specs.Json.{boolean, string};
 ghost use Rattle.lrs_json.specs.Written.{comma_if, written};
 ghost use Rattle.lrs_names.specs.Ids.{id_text};
@@ -14,19 +15,21 @@ use std::alloc::Global;
 /// What a node takes in the body, if its id is of middle length.
 const NODE_ROOM: usize = 96;
 
-/// The body that tells which nodes of its course are satisfied in a registration. The verdicts are those of the
-/// nodes, in their order.
+/// The body that tells in which edition of a course a registration is, and which nodes of this edition are satisfied in
+/// it. The verdicts are those of the nodes, in their order.
 pub fn standing_text(
     alloc: Global,
     registration: &Id,
     course: &Text,
+    edition: u32,
     nodes: &[Node],
     verdicts: &[bool],
 ) -> Result<Vec<u8>, Memory>
     ensures { IfOk result (λ body. body.items
-        ≡ standing_body registration.now course.now (nodes_of nodes.now verdicts.now)) }
+        ≡ standing_body registration.now course.now edition (nodes_of nodes.now verdicts.now)) }
 {
     let mut body = heading(alloc, registration, course)?;
+    put_edition(alloc, edition, &mut body)?;
     make_room(nodes.len(), &mut body)?;
     put_verdict(is_course_satisfied(nodes, verdicts), &mut body)?;
     put_nodes(nodes, verdicts, &mut body)?;
@@ -43,6 +46,15 @@ fn heading(alloc: Global, registration: &Id, course: &Text) -> Result<Vec<u8>, M
     body.extend_from_slice(b"\",\"course\":")?;
     put_quoted(course.as_str(), &mut body)?;
     Ok(body)
+}
+
+fn put_edition(alloc: Global, edition: u32, body: &mut Vec<u8>) -> Result<(), Memory>
+    ensures { OnOk result (body.new.items ≡ body.old.items ++ codes ",\"edition\":" ++ decimal edition) }
+{
+    let digits = edition.to_string(alloc)?;
+    body.extend_from_slice(b",\"edition\":")?;
+    body.extend_from_slice(digits.as_bytes())?;
+    Ok(())
 }
 
 // Makes room for so many nodes at once.

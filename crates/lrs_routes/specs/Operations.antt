@@ -100,7 +100,8 @@ command_of operation.DropDocuments (parameter.Dropped dropped) p b = Some (dropp
 command_of operation.GetProfile q p b = Some (Read read.Profile)
 command_of operation.MakeProvider q p (body.Strings (name ∷ [])) = Some (Write (Provider name))
 command_of operation.TakeCourse q p (body.Course tree) = Some (Write (Course tree))
-command_of operation.EnrolLearner q p (body.Enrolment course actor) = Some (Write (Enrol course actor))
+command_of operation.EnrolLearner q p (body.Enrolment course actor edition) =
+    Some (Write (Enrol course actor edition))
 command_of operation.LaunchUnit q (part.Id registration) (body.Launch unit mode return_url) =
     Some (Write (Launch registration unit mode return_url))
 command_of operation.FetchToken q (part.Text key) b = Some (Write (Fetch key))

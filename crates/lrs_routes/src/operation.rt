@@ -355,7 +355,15 @@ fn enrolled(body: BodyValue) -> Command
     ensures plain { IsNoRefusal result }
 {
     match body {
-        BodyValue::Enrolment { course, actor } => Command::Write(Write::Enrol { course, actor }),
+        BodyValue::Enrolment {
+            course,
+            actor,
+            edition,
+        } => Command::Write(Write::Enrol {
+            course,
+            actor,
+            edition,
+        }),
         _ => unreachable!(),
     }
 }

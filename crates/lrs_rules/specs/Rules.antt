@@ -1,9 +1,10 @@
--- The names of rules, and what it is to break a rule on JSON.
-use Rattle.std.specs.Prelude.{◌≡◌, ◌⊎◌, ℕ, List, ◌∷◌, IsTrue, Option, Some, None}
+-- The names of rules, what it is to break a rule on JSON, and the numbers of editions.
+use Rattle.std.specs.Prelude.{◌≡◌, ◌⊎◌, ℕ, Bool, ◌&&◌, nat_le, nat_lt, List, ◌∷◌, IsTrue, Option, Some, None}
 use Rattle.std.specs.Fmt.{decimal}
 use Rattle.lrs_json_reader.specs.declared.reading.ReadRefused.{ReadRefused}
 use Rattle.lrs_json_reader.specs.declared.reading.ReadRefused.TheVariants as read
 use Rattle.lrs_json_reader.specs.Refusals.{IsBad, OutOfRangeAt, RepeatedAt, is_too_deep}
+use Rattle.lrs_rules.specs.declared.limits.TheConstants.{MOST_EDITION}
 use Rattle.lrs_rules.specs.declared.rule.Rule.{Rule}
 use Rattle.lrs_rules.specs.declared.rule.Rule.TheVariants.{A, B, C, F, J, K, P, S, T}
 use Rattle.lrs_json.specs.declared.limits.TheConstants.{DEPTH}
@@ -50,3 +51,7 @@ json_rule read.Bad = Some (J 2)
 json_rule (read.Repeated offset) = Some (J 3)
 json_rule (read.NumberRange offset) = Some (J 4)
 json_rule read.Memory = None
+
+-- a number by which an enrolment may name an edition: 1 to 9 digits, not beginning with 0
+abbrev pub is_edition_number : ℕ → Bool
+is_edition_number number = nat_lt 0 number && nat_le number MOST_EDITION

@@ -1,4 +1,4 @@
--- Registers that stay so short that 32 bits number their items. They are found by keys of bytes.
+-- Registers that stay so short that 32 bits number their items, and lists that are found by keys of bytes.
 use Rattle.std.specs.Prelude.{◌+◌, ◌<◌, ◌^◌, ℕ, Bool, List, length, find, Option}
 use Rattle.std.specs.Str.{bytes_eq}
 use Rattle.std.specs.declared.cmp.Ordering.{Ordering}

@@ -1,6 +1,8 @@
 pub mod Counted
 pub mod Founding
 pub mod Providers
+pub mod Editions
+pub mod EditionKeys
 pub mod Courses
 pub mod Learners
 pub mod Registrations

@@ -1,8 +1,8 @@
 -- What a store holds, in parts, and what an entry changes in them. Each part has its own change and its own step.
 use Rattle.std.specs.Prelude.{ℕ, ◌+◌, ◌&&◌, Bool, not, List, [], Option, None, is_none}
-use Rattle.cmi5_course.specs.Courses.{Course}
 use Rattle.cmi5_course.specs.declared.launch.Launch.{Launch}
 use Rattle.lrs_state.specs.Courses.{courses_after, unchanged_courses}
+use Rattle.lrs_state.specs.Editions.{SeenEdition, editions_after, unchanged_editions}
 use Rattle.lrs_state.specs.Founding.{founding_after}
 use Rattle.lrs_state.specs.Launches.{keys_after, launches_after, session_ids, tokens_after, unchanged_keys}
 use Rattle.lrs_state.specs.Launches.{unchanged_launches, unchanged_tokens}
@@ -10,6 +10,7 @@ use Rattle.lrs_state.specs.Providers.{providers_after, unchanged_providers}
 use Rattle.lrs_state.specs.Registrations.{registration_ids, registrations_after, unchanged_registrations}
 use Rattle.lrs_state.specs.Sessions.{changes_sessions, made_session_ids, made_sessions_after, sessions_after}
 use Rattle.lrs_state.specs.Sessions.{unchanged_made_sessions, unchanged_sessions}
+use Rattle.lrs_state.specs.declared.courses.HeldCourse.{HeldCourse}
 use Rattle.lrs_state.specs.declared.launches.HeldKey.{HeldKey}
 use Rattle.lrs_state.specs.declared.launches.HeldToken.{HeldToken}
 use Rattle.lrs_state.specs.declared.sessions.HeldSession.{HeldSession}
@@ -37,8 +38,10 @@ pub record State : Type 0 where
   pub statements : List StoredStatement
   -- the documents in the order of their keys, at most one under a key
   pub documents : Documents
-  -- the courses in the order in which they came, each under an id of its own
-  pub courses : List Course
+  -- the editions of all courses in the order in which they came, each under an id and a number of its own
+  pub editions : List SeenEdition
+  -- the courses, each under an id of its own, with how many editions there are of it
+  pub courses : List HeldCourse
   -- the registrations in the order in which they were made, each under an id of its own
   pub registrations : List HeldRegistration
   -- the launches in their order, each with a session of its own
@@ -62,6 +65,7 @@ nothing = record {
   providers = [];
   statements = [];
   documents = [];
+  editions = [];
   courses = [];
   registrations = [];
   launches = [];
@@ -80,6 +84,7 @@ no_change moment = record {
   providers = unchanged_providers;
   statements = [];
   documents = Unchanged;
+  editions = unchanged_editions;
   courses = unchanged_courses;
   registrations = unchanged_registrations;
   launches = unchanged_launches;
@@ -94,7 +99,7 @@ no_change moment = record {
 -- it changes nothing of what is held of courses and of their learners
 abbrev pub changes_no_learning : Effect → Bool
 changes_no_learning x =
-    not (changes x.courses) && not (changes x.registrations) && not (changes x.launches)
+    not (changes x.editions) && not (changes x.courses) && not (changes x.registrations) && not (changes x.launches)
     && not (changes_sessions x.sessions) && not (changes x.made_sessions) && not (changes x.keys)
     && not (changes x.tokens)
 
@@ -110,6 +115,7 @@ apply st x = record {
   providers = providers_after st.providers x.providers;
   statements = add_each st.statements x.statements;
   documents = documents_after st.documents x.documents;
+  editions = editions_after st.editions x.editions;
   courses = courses_after st.courses x.courses;
   registrations = registrations_after st.registrations x.registrations;
   launches = launches_after st.launches x.launches;

@@ -14,8 +14,11 @@ pub enum Acceptance {
         index: usize,
         token: Text,
     },
-    /// The id of the course that stands.
-    Course(Text),
+    /// The id of the course that stands, and the number of its newest edition.
+    Course {
+        id: Text,
+        edition: u32,
+    },
     /// The id of the registration that it makes.
     Registration(Id),
     /// The session of the launch that it makes, how its unit wants to be shown, and where its content is opened.

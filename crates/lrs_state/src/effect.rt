@@ -2,8 +2,8 @@ ghost use Rattle.std.specs.Prelude.{◌≡◌};
 ghost use Rattle.lrs_state.specs.State.{changes_no_learning, changes_nothing, no_change};
 
 use crate::{
-    Acceptance, CoursesChange, Founding, KeysChange, LaunchesChange, MadeSessionsChange,
-    ProvidersChange, RegistrationsChange, SessionsChange, TokensChange,
+    Acceptance, CoursesChange, EditionsChange, Founding, KeysChange, LaunchesChange,
+    MadeSessionsChange, ProvidersChange, RegistrationsChange, SessionsChange, TokensChange,
 };
 use lrs_json::Items;
 use lrs_time::Moment;
@@ -18,6 +18,7 @@ pub struct Effect {
     pub providers: ProvidersChange,
     pub statements: Items<StoredStatement>,
     pub documents: DocumentsChange,
+    pub editions: EditionsChange,
     pub courses: CoursesChange,
     pub registrations: RegistrationsChange,
     pub launches: LaunchesChange,
@@ -39,6 +40,7 @@ impl Effect {
             providers: ProvidersChange::none(),
             statements: Items::new(alloc),
             documents: DocumentsChange::Unchanged,
+            editions: EditionsChange::none(),
             courses: CoursesChange::none(),
             registrations: RegistrationsChange::none(),
             launches: LaunchesChange::none(),
@@ -66,7 +68,8 @@ impl Effect {
     fn changes_no_learning(&self) -> bool
         ensures { result ≡ changes_no_learning self.now }
     {
-        !self.courses.changes()
+        !self.editions.changes()
+            && !self.courses.changes()
             && !self.registrations.changes()
             && !self.launches.changes()
             && !self.sessions.changes()

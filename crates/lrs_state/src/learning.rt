@@ -3,13 +3,16 @@ ghost use Rattle.std.specs.Prelude.{◌≡◌, [], OnOk};
 ghost use Rattle.lrs_state.specs.Learning.{IsLearningReadyFor, KeepsLearning, MakesLearningSlots};
 ghost use Rattle.lrs_state.specs.Learning.{TakesLearningSlotsBack};
 
-use crate::{Courses, Effect, HeldSessions, Keys, Launches, MadeSessions, Registrations, Tokens};
+use crate::{
+    Courses, Editions, Effect, HeldSessions, Keys, Launches, MadeSessions, Registrations, Tokens,
+};
 use lrs_json::Memory;
 use std::alloc::Global;
 
 /// What a store holds of courses and of their learners.
 #[derive(Drop)]
 pub struct Learning {
+    pub editions: Editions,
     pub courses: Courses,
     pub registrations: Registrations,
     pub launches: Launches,
@@ -22,6 +25,7 @@ pub struct Learning {
 impl Learning {
     /// Of a store without entries.
     pub fn new(alloc: Global) -> Learning
+        ensures editions { result.editions.held ≡ [] }
         ensures courses { result.courses.held ≡ [] }
         ensures registrations { result.registrations.held ≡ [] }
         ensures launches { result.launches.held ≡ [] }
@@ -31,6 +35,7 @@ impl Learning {
         ensures tokens { result.tokens.held ≡ [] }
     {
         Learning {
+            editions: Editions::new(alloc),
             courses: Courses::new(alloc),
             registrations: Registrations::new(alloc),
             launches: Launches::new(alloc),
@@ -47,6 +52,7 @@ impl Learning {
         ensures ready { OnOk result (IsLearningReadyFor self.new effect.now) }
         ensures made { MakesLearningSlots self.old self.new effect.now }
     {
+        self.editions.ready(&effect.editions)?;
         self.courses.ready(&effect.courses)?;
         self.registrations.ready(&effect.registrations)?;
         self.launches.ready(&effect.launches)?;
@@ -61,6 +67,7 @@ impl Learning {
         ensures same { KeepsLearning self.old self.new }
         ensures back { TakesLearningSlotsBack self.old self.new effect.now }
     {
+        self.editions.release(&effect.editions);
         self.courses.release(&effect.courses);
         self.registrations.release(&effect.registrations);
         self.launches.release(&effect.launches);

@@ -1,11 +1,13 @@
-//! What a store holds, in parts (what it was founded with, the providers, the statements, the documents, the courses
-//! and their learners), what an entry changes in them, and what is said to its caller. A part knows its own change, but
-//! no other part and no command. Begin with `specs/State` and `effect`, then `counted` and `learning`.
+//! What a store holds, in parts (what it was founded with, the providers, the statements, the documents, the courses,
+//! their editions and their learners), what an entry changes in them, and what is said to its caller. A part knows its
+//! own change, but no other part and no command. Begin with `specs/State` and `effect`, then `counted` and `learning`.
 #![tactic(auto)]
 
 mod acceptance;
 mod counted;
 mod courses;
+mod edition_keys;
+mod editions;
 mod effect;
 mod founding;
 mod launches;
@@ -16,7 +18,9 @@ mod sessions;
 
 pub use acceptance::Acceptance;
 pub use counted::Counted;
-pub use courses::{Courses, CoursesChange, course_id, index_of_course};
+pub use courses::{Courses, CoursesChange, HeldCourse, course_id, index_meant, newest_edition};
+pub use edition_keys::EditionKey;
+pub use editions::{Edition, Editions, EditionsChange};
 pub use effect::Effect;
 pub use founding::{Founding, is_admin, is_base, is_token};
 pub use launches::{

@@ -64,12 +64,12 @@ fn has_account(ifi: &Ifi) -> bool
     }
 }
 
-/// That a learner takes a course (cmi5 Quartz, section 8.1.4, `registration`).
+/// That a learner takes an edition of a course (cmi5 Quartz, section 8.1.4, `registration`).
 #[derive(Drop)]
 pub struct HeldRegistration {
     pub id: Id,
-    /// The index of the course.
-    pub course: u32,
+    /// The index of the edition. The registration stays in it.
+    pub edition: u32,
     /// Who the learner is.
     pub actor: Learner,
 }

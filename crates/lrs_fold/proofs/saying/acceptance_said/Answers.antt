@@ -21,7 +21,7 @@ returns-in-Provider c =
     subst (IsToldAs c.shown-in-Provider.result c.args.same) (sym c.in-Provider.is) (c.shown-in-Provider.ensures (provider_body c.in-Provider.index c.in-Provider.token) c.provider_text.ensures)
 
 pub returns-in-Course : goal.returns-in-Course
-returns-in-Course c = subst (IsToldAs c.shown-in-Course.result c.args.same) (sym c.in-Course.is) (c.shown-in-Course.ensures (course_body c.in-Course.id) c.course_text.ensures)
+returns-in-Course c = subst (IsToldAs c.shown-in-Course.result c.args.same) (sym c.in-Course.is) (c.shown-in-Course.ensures (course_body c.in-Course.id c.in-Course.edition) c.course_text.ensures)
 
 pub returns-in-Registration : goal.returns-in-Registration
 returns-in-Registration c =

@@ -1,7 +1,6 @@
 use Rattle.xapi_alike.proofs.Laws.{same_is_sameness}
 use Rattle.lrs_history.proofs.Strangers.{told_barred}
 use Rattle.lrs_laws.proofs.Again.{batch_conflicts_are_told, conflicts_are_told, repeated_batches_are_taken, repeats_are_taken}
-use Rattle.lrs_laws.proofs.CourseLaws.{courses_name_one}
 use Rattle.lrs_laws.proofs.Keepers.{names_for_good, names_one, stays_voided}
 use Rattle.lrs_laws.proofs.LetIn.{callers_stay_let_in}
 use Rattle.lrs_laws.proofs.NewIds.{desk_ids_are_new, made_ids_are_new}
@@ -19,9 +18,6 @@ returns-clause-strangers c = told_barred
 
 pub returns-clause-one : goal.returns-clause-one
 returns-clause-one c = names_one
-
-pub returns-clause-courses : goal.returns-clause-courses
-returns-clause-courses c = courses_name_one
 
 pub returns-clause-good : goal.returns-clause-good
 returns-clause-good c = names_for_good

@@ -14,7 +14,7 @@ returns-in-Ok c =
     let st = state_of c.args.parts.now in
     let ids = c.in-Ok.ids in
     let s = left_of (used_in st) ids.left in
-    IfOk-weaker c.enrol_as.result (λ made. made ≡ enrolled_under st c.args.moment (registered ids.first c.args.course c.args.actor) ids.second s)
-    (λ made. (by : Who) → made ≡ enrolling st (occasion_at st by c.args.moment c.args.draw.now) c.args.actor (Some c.args.course))
-    (λ made is. λ by. is ∙ enrolled_is st by c.args.moment c.args.draw.now c.args.course c.args.actor ids.first ids.second s
+    IfOk-weaker c.enrol_as.result (λ made. made ≡ enrolled_under st c.args.moment (registered ids.first c.args.edition c.args.actor) ids.second s)
+    (λ made. (by : Who) → made ≡ enrolling st (occasion_at st by c.args.moment c.args.draw.now) c.args.actor (Some c.args.edition))
+    (λ made is. λ by. is ∙ enrolled_is st by c.args.moment c.args.draw.now c.args.edition c.args.actor ids.first ids.second s
     c.in-Ok.ensures.first c.in-Ok.ensures.second c.in-Ok.ensures.left) c.enrol_as.ensures

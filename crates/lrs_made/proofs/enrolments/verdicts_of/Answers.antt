@@ -1,4 +1,4 @@
--- The parts find the registration with its course.
+-- The parts find the registration with its edition.
 use Rattle.std.proofs.Common.{◌≡◌, IfOk, subst}
 use Rattle.lrs_history.specs.Cmi5VerdictNodes.{SeenEnrolment, seen, verdicts}
 use Rattle.lrs_made.proofs.Lent.{enrolment_lent}

@@ -11,4 +11,4 @@ returns c =
     let node = c.args.node.now in
     subst (λ (activity : List ℕ). IfOk c.statement_of.result (λ s. view s.tree
     ≡ saying_json (said_satisfied node.kind) registration.actor activity node.id registration.id c.args.session.now))
-    (c.in_ok-activity.ensures ∙ ap (λ (base : List ℕ). activity_text base registration.course c.args.index) c.text.ensures.lent) c.statement_of.ensures
+    (c.in_ok-activity.ensures ∙ ap (λ (base : List ℕ). activity_text base registration.edition c.args.index) c.text.ensures.lent) c.statement_of.ensures

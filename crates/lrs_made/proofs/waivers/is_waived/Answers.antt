@@ -1,4 +1,4 @@
--- The parts find the unit's registration with its course.
+-- The parts find the unit's registration with its edition.
 use Rattle.std.proofs.Common.{◌≡◌, ◌<◌, IfOk, length, subst, sym}
 use Rattle.lrs_history.specs.Cmi5LaunchNames.{waived}
 use Rattle.lrs_history.specs.Cmi5VerdictNodes.{SeenEnrolment, activity_of_node, seen}

@@ -13,5 +13,5 @@ returns-in-Some c = c.count_in.ensures
 pub returns-in_default : goal.returns-in_default
 returns-in_default c = λ those few counted.
     let m = mark c.args.statement.now c.args.voided in
-    counted_still c.args.running.now c.args.founding.now c.args.learning.now.courses.held c.args.learning.now.registrations.held those (those ++ m ∷ []) c.args.statement.now
+    counted_still c.args.running.now c.args.founding.now c.args.learning.now.editions.held c.args.learning.now.registrations.held those (those ++ m ∷ []) c.args.statement.now
     (λ e tallies apart are. elsewhere_counted e those m tallies apart are) (sym c.number_named.ensures ∙ c.in_default.is) counted

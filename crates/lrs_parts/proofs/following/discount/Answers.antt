@@ -13,5 +13,5 @@ returns-in-Some c = c.discount_in.ensures
 pub returns-in_default : goal.returns-in_default
 returns-in_default c = λ before behind counted.
     let s = c.args.statement.now in
-    counted_still c.args.running.now c.args.founding.now c.args.learning.now.courses.held c.args.learning.now.registrations.held (before ++ mark s false ∷ behind) (before ++ mark s true ∷ behind) s
+    counted_still c.args.running.now c.args.founding.now c.args.learning.now.editions.held c.args.learning.now.registrations.held (before ++ mark s false ∷ behind) (before ++ mark s true ∷ behind) s
     (λ e tallies apart are. elsewhere_voided e before behind s tallies apart are) (sym c.number_named.ensures ∙ c.in_default.is) counted

@@ -9,4 +9,4 @@ use Rattle.lrs_parts.proofs.following.enrolment_with.Goals as goal
 
 pub returns-clause-behind : goal.returns-clause-behind
 returns-clause-behind c =
-    subst (λ (ns : List Node). StandBehindHolders ns) (sym (c.nodes.ensures.lent ∙ ap (λ (x : Course). x.nodes) c.nodes.ensures.read)) (behind_holders (view c.args.course.now.tree))
+    subst (λ (ns : List Node). StandBehindHolders ns) (sym (c.nodes.ensures.lent ∙ ap (λ (x : Course). x.nodes) c.nodes.ensures.read)) (behind_holders (view c.course.result.now.tree))

@@ -21,7 +21,7 @@ returns-clause-follows c = λ follows.
     let voided : c.is_voided_at-already.result ≡ is_voided (take (c.args.at + 1) all) s =
     c.is_voided_at-already.ensures ∙ ap (λ (o : Option StoredStatement). option_map_or (is_voided (take (c.args.at + 1) all)) o false) c.requires.there in
     c.void_by.ensures.follows s c.requires.there
-    (subst (λ (v : Bool). KeepsUp c.take_in.new.progress c.args.founding.now c.args.learning.now.courses.held c.args.learning.now.registrations.held (marked (take c.args.at all) ++ mark s v ∷ [])) voided
+    (subst (λ (v : Bool). KeepsUp c.take_in.new.progress c.args.founding.now c.args.learning.now.editions.held c.args.learning.now.registrations.held (marked (take c.args.at all) ++ mark s v ∷ [])) voided
     (c.take_in.ensures.follows (marked (take c.args.at all)) (marks_few all c.args.at c.requires.few) follows))
 
 pub returns-clause-slots : goal.returns-clause-slots

@@ -71,5 +71,5 @@ returns c = λ follows.
     let all = c.args.statements.now.held in
     let whole : all ≡ take at.position all =
     at.invariant.added ∙ ap (λ (ss : List StoredStatement). add_each (take at.position all) ss) (drop_all at.statement-index c.args.coming.now c.loop-statement-test.false) in
-    subst (λ (ss : List StoredStatement). KeepsUp at.progress c.args.founding.now c.args.learning.now.courses.held c.args.learning.now.registrations.held (marked ss)) (sym whole)
+    subst (λ (ss : List StoredStatement). KeepsUp at.progress c.args.founding.now c.args.learning.now.editions.held c.args.learning.now.registrations.held (marked ss)) (sym whole)
     (at.invariant.follows follows)

@@ -10,7 +10,7 @@ abbrev pub invariant-loop-statement : goal.invariant-loop-statement
 invariant-loop-statement l = record {
   within : l.position ≤ length l.statements.held;
   added : l.statements.held ≡ add_each (take l.position l.statements.held) (drop l.statement-index l.coming);
-  follows : KeepsUp l.fn.progress l.founding l.learning.courses.held l.learning.registrations.held (marked (take l.first l.statements.held))
-      → KeepsUp l.progress l.founding l.learning.courses.held l.learning.registrations.held (marked (take l.position l.statements.held));
+  follows : KeepsUp l.fn.progress l.founding l.learning.editions.held l.learning.registrations.held (marked (take l.first l.statements.held))
+      → KeepsUp l.progress l.founding l.learning.editions.held l.learning.registrations.held (marked (take l.position l.statements.held));
   slots : KeepsSlots l.fn.progress.sessions l.progress.sessions;
 }

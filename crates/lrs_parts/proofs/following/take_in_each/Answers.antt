@@ -46,11 +46,11 @@ returns-clause-kept c =
     let front : take c.len-first.result c.install.new.self.held ≡ old =
     ap (λ (n : ℕ). take n c.install.new.self.held) c.len-first.ensures
     ∙ (ap (λ (ss : List StoredStatement). take (length old) ss) c.install.ensures.held ∙ front_of old c.args.coming.now) in
-    let was : KeepsUp c.args.progress.now c.args.founding.now c.args.learning.now.courses.held c.args.learning.now.registrations.held (marked (take c.len-first.result c.install.new.self.held)) =
-    subst (λ (ss : List StoredStatement). KeepsUp c.args.progress.now c.args.founding.now c.args.learning.now.courses.held c.args.learning.now.registrations.held (marked ss)) (sym front)
+    let was : KeepsUp c.args.progress.now c.args.founding.now c.args.learning.now.editions.held c.args.learning.now.registrations.held (marked (take c.len-first.result c.install.new.self.held)) =
+    subst (λ (ss : List StoredStatement). KeepsUp c.args.progress.now c.args.founding.now c.args.learning.now.editions.held c.args.learning.now.registrations.held (marked ss)) (sym front)
     c.requires.kept.follows in
     record {
       distinct = ap (λ (ss : List StoredStatement). are_distinct (ids_of ss)) c.install.ensures.held ∙ distinct_each old c.args.coming.now c.requires.kept.distinct;
-      follows = settled c.follow_each.new.progress c.settle.new.self c.args.founding.now c.args.learning.now.courses.held c.args.learning.now.registrations.held (marked c.install.new.self.held)
+      follows = settled c.follow_each.new.progress c.settle.new.self c.args.founding.now c.args.learning.now.editions.held c.args.learning.now.registrations.held (marked c.install.new.self.held)
           c.settle.ensures.sessions c.settle.ensures.held (c.follow_each.ensures (record { sessions = was.sessions; counted = was.counted }));
     }

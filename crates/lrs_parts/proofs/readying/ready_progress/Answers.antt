@@ -21,6 +21,6 @@ returns-clause-made c =
 
 pub returns-clause-ready : goal.returns-clause-ready
 returns-clause-ready c =
-    readied c.ready.new.self c.args.founding.now c.args.courses.now.held c.args.statements.now.held c.args.effect.now c.in_ok-enrolment.enrolment c.as_ref.result c.as_slice.result.now
-    c.ready.result c.as_ref.ensures.value c.as_slice.ensures c.in_ok-enrolment.ensures.courses c.in_ok-enrolment.ensures.registrations c.in_ok-enrolment.ensures.enrolment c.ready.ensures.sessions
+    readied c.ready.new.self c.args.founding.now c.args.editions.now.held c.args.statements.now.held c.args.effect.now c.in_ok-enrolment.enrolment c.as_ref.result c.as_slice.result.now
+    c.ready.result c.as_ref.ensures.value c.as_slice.ensures c.in_ok-enrolment.ensures.editions c.in_ok-enrolment.ensures.registrations c.in_ok-enrolment.ensures.enrolment c.ready.ensures.sessions
     c.ready.ensures.running c.ready.ensures.targets

@@ -10,16 +10,16 @@ use Rattle.lrs_made.specs.LrsPartsParts.{state_of}
 use Rattle.lrs_refusals.proofs.meeting.refused_behind.Goals as goal
 use Rattle.lrs_json.proofs.Lists.{drop_item}
 
-pub behind_one-requires-clause-lawful : goal.behind_one-requires-clause-lawful
-behind_one-requires-clause-lawful c =
+pub meet_one-requires : goal.meet_one-requires
+meet_one-requires c =
     let ts = c.args.statements.now in
     let at = c.loop-at.at in
     let t = c.index-statements-at.result in
     let within : at < length ts = omega arith in
     lawful_at ts at t c.requires.lawful (slice_get_read ts (length ts) at t refl within c.index-statements-at.is)
 
-pub behind_one-requires-clause-told : goal.behind_one-requires-clause-told
-behind_one-requires-clause-told c =
+pub session_behind-session-requires : goal.session_behind-session-requires
+session_behind-session-requires c =
     let ids = c.args.ids.now in
     let ts = c.args.statements.now in
     let at = c.loop-at.at in
@@ -27,7 +27,8 @@ behind_one-requires-clause-told c =
     let t = c.index-statements-at.result in
     let named : at < length ids = omega arith in
     let within : at < length ts = omega arith in
-    told_at (state_of c.args.parts.now) ids ts at id t c.requires.told (slice_get_read ids (length ids) at id refl named c.index-ids-at.is)
+    c.in_ok-meeting.ensures.own
+    ∙ told_at (state_of c.args.parts.now) ids ts at id t c.requires.told (slice_get_read ids (length ids) at id refl named c.index-ids-at.is)
     (slice_get_read ts (length ts) at t refl within c.index-statements-at.is)
 
 pub loop-at-preserved : goal.loop-at-preserved
@@ -40,16 +41,15 @@ loop-at-preserved c =
     let t = c.index-statements-at.result in
     let named : at < length ids = omega arith in
     let within : at < length ts = omega arith in
-    let goes_on : (refused_next st (seen c.loop-at.session) t ≡ None) × (seen c.in-Ok.next ≡ session_behind st (seen c.loop-at.session) (record { id = id; tree = t })) = rw c.in-Ok.is at c.in_ok-behind.ensures.refused in
     record {
-      refused = sym (next_passed_on st (seen c.loop-at.session) (seen c.in-Ok.next) ids ts at id t (slice_get_read ids (length ids) at id refl named c.index-ids-at.is)
-          (slice_get_read ts (length ts) at t refl within c.index-statements-at.is) goes_on.0 goes_on.1)
+      refused = sym (next_passed_on st (seen c.loop-at.session) (seen c.session_behind-session.result) ids ts at id t (slice_get_read ids (length ids) at id refl named c.index-ids-at.is)
+          (slice_get_read ts (length ts) at t refl within c.index-statements-at.is) (sym c.in_ok-meeting.ensures.refused ∙ c.in-None.is) c.session_behind-session.ensures)
           ∙ c.loop-at.invariant.refused;
-      held = held_more st ts at t c.loop-at.held c.behind_one.new.held (c.args.held.now ++ own_held st ts) (drop_item ts at t within c.index-statements-at.is) c.in_ok-behind.ensures.held c.loop-at.invariant.held;
+      held = held_more st ts at t c.loop-at.held c.meet_one.new.held (c.args.held.now ++ own_held st ts) (drop_item ts at t within c.index-statements-at.is) c.in_ok-meeting.ensures.held c.loop-at.invariant.held;
     }
 
-pub returns-in-Err-clause-refused : goal.returns-in-Err-clause-refused
-returns-in-Err-clause-refused c =
+pub returns-in-Some-clause-refused : goal.returns-in-Some-clause-refused
+returns-in-Some-clause-refused c =
     let st = state_of c.args.parts.now in
     let ids = c.args.ids.now in
     let ts = c.args.statements.now in
@@ -58,13 +58,12 @@ returns-in-Err-clause-refused c =
     let t = c.index-statements-at.result in
     let named : at < length ids = omega arith in
     let within : at < length ts = omega arith in
-    let ends : refused_next st (seen c.loop-at.session) t ≡ Some c.in-Err.refusal = rw c.in-Err.is at c.in_ok-behind.ensures.refused in
-    sym (next_refused st (seen c.loop-at.session) ids ts at id t c.in-Err.refusal (slice_get_read ids (length ids) at id refl named c.index-ids-at.is)
-    (slice_get_read ts (length ts) at t refl within c.index-statements-at.is) ends)
+    sym (next_refused st (seen c.loop-at.session) ids ts at id t c.in-Some.refusal (slice_get_read ids (length ids) at id refl named c.index-ids-at.is)
+    (slice_get_read ts (length ts) at t refl within c.index-statements-at.is) (sym c.in_ok-meeting.ensures.refused ∙ c.in-Some.is))
     ∙ c.loop-at.invariant.refused
 
-pub returns-in-Err-clause-held : goal.returns-in-Err-clause-held
-returns-in-Err-clause-held c = λ is. cc is
+pub returns-in-Some-clause-held : goal.returns-in-Some-clause-held
+returns-in-Some-clause-held c = λ is. cc is
 
 pub returns-clause-refused : goal.returns-clause-refused
 returns-clause-refused c =

@@ -15,6 +15,6 @@ returns-clause-refused c =
     (sym (c.barred.ensures ∙ ap (λ area. barred area c.args.who) c.area.ensures) ∙ c.in_default.is)
     (sym c.in_ok-refusal.ensures ∙ c.in_default-2.is)
     (sym c.barred_document.ensures ∙ c.in_default-barred_document.is)
-    (sym c.missing.ensures ∙ c.in_default-missing.is)
-    (sym c.in_ok-refusal-2.ensures ∙ c.in_default-3.is))
+    (sym c.in_ok-refusal-2.ensures ∙ c.in_default-3.is)
+    (sym c.in_ok-refusal-3.ensures ∙ c.in_default-4.is))
     c.conflict.ensures.refused

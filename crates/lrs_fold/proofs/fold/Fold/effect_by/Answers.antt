@@ -9,7 +9,7 @@ use Rattle.lrs_fold.specs.Written.{effect_by}
 use Rattle.lrs_reads.specs.LrsHistoryDeskEffects.{abandoning_one, enrolling, fetching, launching, sweeping, waiving}
 use Rattle.lrs_reads.specs.LrsHistoryLaunches.{target}
 use Rattle.lrs_learning.specs.Occasions.{occasion_at}
-use Rattle.lrs_learning.specs.LrsStateCourses.{index_of_course}
+use Rattle.lrs_learning.specs.LrsStateCourses.{index_meant}
 use Rattle.lrs_learning.specs.LrsStateLaunches.{key_under, index_of_session}
 use Rattle.lrs_learning.specs.LrsPartsParts.{state_of}
 use Rattle.lrs_record.specs.declared.entry.Write.{Write}
@@ -51,8 +51,8 @@ returns-in-Enrol c =
     let st = state_of c.args.self.now.parts in
     let draw = c.args.draw.now in
     subst (GivesEffect st c.args.who c.args.moment draw c.enrolling.result) (sym c.in-Enrol.is)
-    (IfOk-weaker c.enrolling.result (λ made. (by : Who) → made ≡ enrolling st (occasion_at st by c.args.moment draw) c.in-Enrol.actor (index_of_course c.in-Enrol.course st.courses))
-    (λ made. made ≡ effect_by st c.args.who c.args.moment draw (write.Enrol c.in-Enrol.course c.in-Enrol.actor)) (λ made known. known c.args.who) c.enrolling.ensures)
+    (IfOk-weaker c.enrolling.result (λ made. (by : Who) → made ≡ enrolling st (occasion_at st by c.args.moment draw) c.in-Enrol.actor (index_meant c.in-Enrol.course c.in-Enrol.edition st.courses st.editions))
+    (λ made. made ≡ effect_by st c.args.who c.args.moment draw (write.Enrol c.in-Enrol.course c.in-Enrol.actor c.in-Enrol.edition)) (λ made known. known c.args.who) c.enrolling.ensures)
 
 pub enrolling-requires : goal.enrolling-requires
 enrolling-requires c = subst IsJudged c.in-Enrol.is c.requires.judged

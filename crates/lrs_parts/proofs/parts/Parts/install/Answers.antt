@@ -3,6 +3,7 @@ use Rattle.std.proofs.Common.{◌+◌, ◌∙◌, List, ap, refl, subst, sym}
 use Rattle.cmi5_running_sessions.specs.Room.{HasSlotsForEach}
 use Rattle.cmi5_running_sessions.specs.Cmi5SessionMarked.{marked}
 use Rattle.lrs_state.specs.Courses.{courses_after}
+use Rattle.lrs_state.specs.Editions.{editions_after}
 use Rattle.lrs_state.specs.Founding.{founding_after}
 use Rattle.lrs_state.specs.Launches.{keys_after, launches_after, tokens_after}
 use Rattle.lrs_parts.specs.Parts.{IsReadyFor, SeenParts}
@@ -23,7 +24,7 @@ use Rattle.lrs_parts.proofs.parts.Parts.install.Goals as goal
 
 pub install-requires : goal.install-requires
 install-requires c =
-    let ready = subst (λ (v : SeenParts). IsReadyFor v c.args.effect) (sym c.self.view_is) c.requires in ready.learning.courses
+    let ready = subst (λ (v : SeenParts). IsReadyFor v c.args.effect) (sym c.self.view_is) c.requires in ready.learning.editions
 
 pub install-requires-2 : goal.install-requires-2
 install-requires-2 c =
@@ -72,6 +73,10 @@ pub install-requires-8 : goal.install-requires-8
 install-requires-8 c =
     let ready = subst (λ (v : SeenParts). IsReadyFor v c.args.effect) (sym c.self.view_is) c.requires in ready.learning.tokens
 
+pub install-requires-9 : goal.install-requires-9
+install-requires-9 c =
+    let ready = subst (λ (v : SeenParts). IsReadyFor v c.args.effect) (sym c.self.view_is) c.requires in ready.learning.courses
+
 -- ---- what is kept
 
 pub enrol_new-requires : goal.enrol_new-requires
@@ -86,12 +91,12 @@ take_in_each-voided-requires-clause-kept c =
     let x = c.args.effect in
     let those = marked old.statements.held in
     let ready = subst (λ (v : SeenParts). IsReadyFor v c.args.effect) (sym c.self.view_is) c.requires in
-    kept_enrolled old.progress c.enrol_new.new.running old.founding c.found.new.held x.founding old.learning.courses.held c.install.new.self.held x.courses old.learning.registrations.held
-    c.install-2.new.self.held x.registrations old.statements.held c.found.ensures c.install.ensures ready.progress.courses_stay c.install-2.ensures ready.progress.registrations_stay
+    kept_enrolled old.progress c.enrol_new.new.running old.founding c.found.new.held x.founding old.learning.editions.held c.install.new.self.held x.editions old.learning.registrations.held
+    c.install-2.new.self.held x.registrations old.statements.held c.found.ensures c.install.ensures ready.progress.editions_stay c.install-2.ensures ready.progress.registrations_stay
     (λ rs counted.
     c.enrol_new.ensures c.found.new.held c.install.new.self.held rs those
     (λ r comes.
-    ready_on old.progress.running old.founding c.found.new.held x.founding old.learning.courses.held c.install.new.self.held x.courses c.found.ensures c.install.ensures ready.progress.courses_stay r
+    ready_on old.progress.running old.founding c.found.new.held x.founding old.learning.editions.held c.install.new.self.held x.editions c.found.ensures c.install.ensures ready.progress.editions_stay r
     those (ready.progress.running r comes))
     counted)
     c.self.invariant
@@ -108,7 +113,8 @@ returns-clause-state c =
     same_states _ _ (c.found.ensures ∙ ap (λ (v : SeenParts). founding_after v.founding x.founding) is) (c.install-3.ensures ∙ ap (λ (v : SeenParts). providers_after v.providers.held x.providers) is)
     (c.take_in_each-voided.ensures.held ∙ (ap (λ (ss : List StoredStatement). add_each c.self.inside.statements.held ss) c.as_slice.ensures ∙ ap (λ (v : SeenParts). add_each v.statements.held x.statements) is))
     (c.install_change.ensures ∙ ap (λ (v : SeenParts). documents_after (documents_in v.documents) x.documents) is)
-    (c.install.ensures ∙ ap (λ (v : SeenParts). courses_after v.learning.courses.held x.courses) is)
+    (c.install.ensures ∙ ap (λ (v : SeenParts). editions_after v.learning.editions.held x.editions) is)
+    (c.install-9.ensures ∙ ap (λ (v : SeenParts). courses_after v.learning.courses.held x.courses) is)
     (c.install-2.ensures ∙ ap (λ (v : SeenParts). registrations_after v.learning.registrations.held x.registrations) is)
     (c.install-4.ensures ∙ ap (λ (v : SeenParts). launches_after v.learning.launches.held x.launches) is)
     (c.install-5.ensures ∙ ap (λ (v : SeenParts). sessions_after x.moment v.learning.sessions.held x.sessions) is)

@@ -1,6 +1,6 @@
 -- Room is made in each part, and nothing else changes.
 use Rattle.std.proofs.Common.{◌∙◌, List, ap, subst, sym}
-use Rattle.cmi5_course.specs.Courses.{Course}
+use Rattle.lrs_state.specs.Editions.{SeenEdition}
 use Rattle.cmi5_running_sessions.specs.Room as room
 use Rattle.std.specs.Cmp.Lexicographic.{slice_cmp}
 use Rattle.std.specs.Ordering.{nat_cmp}
@@ -21,15 +21,16 @@ invariant_of-self c =
     let new = c.ready_each.new in
     let does = c.ready_each.ensures in
     let old = c.self.inside in
-    kept_still old.progress new.progress old.founding old.learning.courses.held new.learning.courses.held old.learning.registrations.held new.learning.registrations.held old.statements.held new.statements.held
-    does.made_sessions.same does.same_running does.same_learning.courses does.same_learning.registrations does.same_statements c.self.invariant
+    kept_still old.progress new.progress old.founding old.learning.editions.held new.learning.editions.held old.learning.registrations.held new.learning.registrations.held old.statements.held new.statements.held
+    does.made_sessions.same does.same_running does.same_learning.editions does.same_learning.registrations does.same_statements c.self.invariant
 
 pub returns-clause-same : goal.returns-clause-same
 returns-clause-same c =
     let does = c.ready_each.ensures in
     let is = c.self.view_is in
     same_states _ _ (ap (λ (v : SeenParts). v.founding) is) (does.same_providers ∙ ap (λ (v : SeenParts). v.providers.held) is) (does.same_statements ∙ ap (λ (v : SeenParts). v.statements.held) is)
-    (does.same_documents ∙ ap (λ (v : SeenParts). documents_in v.documents) is) (does.same_learning.courses ∙ ap (λ (v : SeenParts). v.learning.courses.held) is)
+    (does.same_documents ∙ ap (λ (v : SeenParts). documents_in v.documents) is) (does.same_learning.editions ∙ ap (λ (v : SeenParts). v.learning.editions.held) is)
+    (does.same_learning.courses ∙ ap (λ (v : SeenParts). v.learning.courses.held) is)
     (does.same_learning.registrations ∙ ap (λ (v : SeenParts). v.learning.registrations.held) is) (does.same_learning.launches ∙ ap (λ (v : SeenParts). v.learning.launches.held) is)
     (does.same_learning.sessions ∙ ap (λ (v : SeenParts). v.learning.sessions.held) is) (does.same_learning.made_sessions ∙ ap (λ (v : SeenParts). v.learning.made_sessions.held) is)
     (does.same_learning.keys ∙ ap (λ (v : SeenParts). v.learning.keys.held) is) (does.same_learning.tokens ∙ ap (λ (v : SeenParts). v.learning.tokens.held) is) (ap (λ (v : SeenParts). v.length) is)
@@ -45,8 +46,8 @@ returns-clause-ready c =
       documents = documents;
       learning = learning;
       progress =
-          subst (λ (ss : List StoredStatement). IsProgressReadyFor c.ready_each.new.progress c.self.inside.founding c.ready_each.new.learning.courses.held ss c.args.effect.now) (sym does.same_statements)
-          (subst (λ (cs : List Course). IsProgressReadyFor c.ready_each.new.progress c.self.inside.founding cs c.self.inside.statements.held c.args.effect.now) (sym does.same_learning.courses)
+          subst (λ (ss : List StoredStatement). IsProgressReadyFor c.ready_each.new.progress c.self.inside.founding c.ready_each.new.learning.editions.held ss c.args.effect.now) (sym does.same_statements)
+          (subst (λ (es : List SeenEdition). IsProgressReadyFor c.ready_each.new.progress c.self.inside.founding es c.self.inside.statements.held c.args.effect.now) (sym does.same_learning.editions)
           progress);
       length = countable;
     })

@@ -14,15 +14,16 @@ pub invariant_of-self : goal.invariant_of-self
 invariant_of-self c =
     let old = c.self.inside in
     let learning = c.release-3.new.self in
-    kept_still old.progress c.release-4.new.self old.founding old.learning.courses.held learning.courses.held old.learning.registrations.held learning.registrations.held old.statements.held
-    c.release-2.new.self.held c.release-4.ensures.back.same c.release-4.ensures.held c.release-3.ensures.same.courses c.release-3.ensures.same.registrations c.release-2.ensures.held c.self.invariant
+    kept_still old.progress c.release-4.new.self old.founding old.learning.editions.held learning.editions.held old.learning.registrations.held learning.registrations.held old.statements.held
+    c.release-2.new.self.held c.release-4.ensures.back.same c.release-4.ensures.held c.release-3.ensures.same.editions c.release-3.ensures.same.registrations c.release-2.ensures.held c.self.invariant
 
 pub returns-clause-same : goal.returns-clause-same
 returns-clause-same c =
     let same = c.release-3.ensures.same in
     let is = c.self.view_is in
     same_states _ _ (ap (λ (v : SeenParts). v.founding) is) (c.release.ensures.held ∙ ap (λ (v : SeenParts). v.providers.held) is) (c.release-2.ensures.held ∙ ap (λ (v : SeenParts). v.statements.held) is)
-    (c.release_change.ensures.held ∙ ap (λ (v : SeenParts). documents_in v.documents) is) (same.courses ∙ ap (λ (v : SeenParts). v.learning.courses.held) is)
+    (c.release_change.ensures.held ∙ ap (λ (v : SeenParts). documents_in v.documents) is) (same.editions ∙ ap (λ (v : SeenParts). v.learning.editions.held) is)
+    (same.courses ∙ ap (λ (v : SeenParts). v.learning.courses.held) is)
     (same.registrations ∙ ap (λ (v : SeenParts). v.learning.registrations.held) is) (same.launches ∙ ap (λ (v : SeenParts). v.learning.launches.held) is)
     (same.sessions ∙ ap (λ (v : SeenParts). v.learning.sessions.held) is) (same.made_sessions ∙ ap (λ (v : SeenParts). v.learning.made_sessions.held) is)
     (same.keys ∙ ap (λ (v : SeenParts). v.learning.keys.held) is) (same.tokens ∙ ap (λ (v : SeenParts). v.learning.tokens.held) is) (ap (λ (v : SeenParts). v.length) is) (ap (λ (v : SeenParts). v.last) is)

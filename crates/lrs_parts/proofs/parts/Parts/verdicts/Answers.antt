@@ -14,8 +14,8 @@ returns-in-Some c =
     let old = c.self.inside in
     let e = seen c.args.enrolment.now in
     let r = c.args.registration.now in
-    let enrolled : enrolment_in old.founding old.learning.courses.held r ≡ Some e = subst (λ (v : SeenParts). enrolment_in v.founding v.learning.courses.held r ≡ Some e) (sym c.self.view_is) c.requires.enrolled in
-    let stands = held_stands old.progress.running old.founding old.learning.courses.held old.learning.registrations.held (marked old.statements.held) r c.in-Some.number e
+    let enrolled : enrolment_in old.founding old.learning.editions.held r ≡ Some e = subst (λ (v : SeenParts). enrolment_in v.founding v.learning.editions.held r ≡ Some e) (sym c.self.view_is) c.requires.enrolled in
+    let stands = held_stands old.progress.running old.founding old.learning.editions.held old.learning.registrations.held (marked old.statements.held) r c.in-Some.number e
     (sym c.number_held.ensures ∙ c.in-Some.is) enrolled c.self.invariant.follows.counted in
     subst (λ (v : SeenParts). IfOk c.verdicts.result (λ told. told.items ≡ verdicts e v.statements.held)) c.self.view_is
     (IfOk-weaker c.verdicts.result
