@@ -2,6 +2,7 @@
 mod abandoning;
 mod callers;
 mod courses;
+mod editions;
 mod launches;
 mod lists;
 mod recovery;

@@ -38,7 +38,7 @@ const NOW: u64 = 1_700_000_000_000;
 
 const SAMPLE: &str = r#"
 draw 0 0
-admin POST /desk/courses {"id":"http://c/1","title":{"en":"C"},"children":[{"kind":"block","id":"http://c/b","title":{"en":"B"},"children":[{"kind":"unit","id":"http://c/u","title":{"en":"U"},"url":"https://au.example/u","moveOn":"CompletedAndPassed","masteryScore":0.8}]}]} => 200 {"course":"http://c/1"} kept
+admin POST /desk/courses {"id":"http://c/1","title":{"en":"C"},"children":[{"kind":"block","id":"http://c/b","title":{"en":"B"},"children":[{"kind":"unit","id":"http://c/u","title":{"en":"U"},"url":"https://au.example/u","moveOn":"CompletedAndPassed","masteryScore":0.8}]}]} => 200 {"course":"http://c/1","edition":1} kept
 draw 16 0
 admin POST /desk/registrations {"course":"http://c/1","actor":ACTOR} => 200 {"registration":"ID10"} kept
 draw 32 1
@@ -134,7 +134,7 @@ pub fn founded(alloc: Global, failing: Vec<u64>, written: u64) -> Result<Desk<Me
     if !is_base(alloc, &base)? {
         return Err(Fail::from("no base"));
     }
-    let disk = MemDisk::new(alloc, Vec::new(alloc), failing, 999, written)?;
+    let disk = MemDisk::new(alloc, Vec::new(alloc), failing, 19_999, written)?;
     match Desk::found(alloc, disk, 16_777_216, &admin, &base, NOW) {
         Ok(desk) => Ok(desk),
         Err(refused) => {
@@ -175,6 +175,18 @@ pub fn check_reopened(alloc: Global, rows: &str, later: &str) -> Result<(), Fail
             Err(Fail::from("not closed"))
         }
     }
+}
+
+/// The same, for rows with words of their own, each of which stands for a text.
+pub fn check_reopened_with(
+    alloc: Global,
+    words: &[(&str, &str)],
+    rows: &str,
+    later: &str,
+) -> Result<(), Fail> {
+    let rows = spelled(alloc, rows, words)?;
+    let later = spelled(alloc, later, words)?;
+    check_reopened(alloc, rows.as_str(), later.as_str())
 }
 
 fn verdict_behind(

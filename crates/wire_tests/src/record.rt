@@ -92,7 +92,14 @@ fn show_write(into: &mut String, write: &Write) -> Result<(), Fail> {
         } => show_document(into, *how, &key.state, media, bytes.len()),
         Write::Drop { activity, .. } => say(into, activity.text().as_str()),
         Write::Course { .. } => Ok(()),
-        Write::Enrol { course, actor } => show_enrolled(into, course, actor),
+        Write::Enrol {
+            course,
+            actor,
+            edition,
+        } => {
+            show_enrolled(into, course, actor)?;
+            show_edition(into, *edition)
+        }
         Write::Launch {
             registration,
             unit,
@@ -134,6 +141,14 @@ fn show_enrolled(into: &mut String, course: &Iri, actor: &Agent) -> Result<(), F
         say_quoted(into, name)?;
     }
     show_identifier(into, &actor.ifi)
+}
+
+fn show_edition(into: &mut String, edition: Option<u32>) -> Result<(), Fail> {
+    match edition {
+        Some(number) => write!(into, " edition {number}")?,
+        None => {}
+    }
+    Ok(())
 }
 
 fn show_identifier(into: &mut String, ifi: &Ifi) -> Result<(), Fail> {
@@ -523,7 +538,7 @@ fn refuses_other_documents(rt: HostRuntime) -> Result<(), Fail> {
 
 // The commands of courses. An actor has a name or none, and any of the four identifiers: that it has an account is a
 // rule of the store.
-const COURSES: [(&str, &str); 10] = [
+const COURSES: [(&str, &str); 14] = [
     (
         "{\"course\":{\"tree\":{\"id\":\"http://c/1\",\"title\":{\"en\":\"One\"},\"children\":[{\"kind\":\"block\",\"id\":\"http://c/b\",\"title\":{\"en\":\"B\"},\"children\":[{\"kind\":\"unit\",\"id\":\"http://c/u\",\"title\":{\"en\":\"U\"},\"url\":\"https://au.example/u\",\"moveOn\":\"CompletedAndPassed\",\"masteryScore\":0.8}]}]}}}",
         "course",
@@ -561,6 +576,22 @@ const COURSES: [(&str, &str); 10] = [
         "{\"fetch\":{\"key\":\"00000000000000000000000000000001-3\"}}",
         "fetch 00000000000000000000000000000001-3",
     ),
+    (
+        "{\"enrol\":{\"course\":\"http://c/1\",\"actor\":{\"objectType\":\"Agent\",\"account\":{\"homePage\":\"https://p.example\",\"name\":\"k1\"}},\"edition\":0}}",
+        "enrol http://c/1 https://p.example k1 edition 0",
+    ),
+    (
+        "{\"enrol\":{\"course\":\"http://c/1\",\"actor\":{\"objectType\":\"Agent\",\"account\":{\"homePage\":\"https://p.example\",\"name\":\"k1\"}},\"edition\":1}}",
+        "enrol http://c/1 https://p.example k1 edition 1",
+    ),
+    (
+        "{\"enrol\":{\"course\":\"http://c/1\",\"actor\":{\"objectType\":\"Agent\",\"account\":{\"homePage\":\"https://p.example\",\"name\":\"k1\"}},\"edition\":999999999}}",
+        "enrol http://c/1 https://p.example k1 edition 999999999",
+    ),
+    (
+        "{\"enrol\":{\"course\":\"http://c/1\",\"actor\":{\"objectType\":\"Agent\",\"account\":{\"homePage\":\"https://p.example\",\"name\":\"k1\"}},\"edition\":4294967295}}",
+        "enrol http://c/1 https://p.example k1 edition 4294967295",
+    ),
 ];
 
 #[test]
@@ -569,7 +600,7 @@ fn reads_courses_back(rt: HostRuntime) -> Result<(), Fail> {
 }
 
 // Which of the commands, and what is changed in it, so that it is none.
-const NO_COURSES: [(usize, &str, &str); 24] = [
+const NO_COURSES: [(usize, &str, &str); 47] = [
     (1, "\"tree\"", "\"course\""),
     (1, "null", "null,\"tree\":null"),
     (1, "\"tree\":null", ""),
@@ -606,6 +637,41 @@ const NO_COURSES: [(usize, &str, &str); 24] = [
         "\"returnURL\":\"https://p.example/back\",\"mode\":\"Review\"",
     ),
     (9, "\"00000000000000000000000000000001-3\"", "3"),
+    (11, "\"edition\":1", "\"edition\":01"),
+    (11, "\"edition\":1", "\"edition\":00"),
+    (11, "\"edition\":1", "\"edition\":+1"),
+    (11, "\"edition\":1", "\"edition\":-1"),
+    (11, "\"edition\":1", "\"edition\":1.0"),
+    (11, "\"edition\":1", "\"edition\":1e0"),
+    (11, "\"edition\":1", "\"edition\":\"1\""),
+    (11, "\"edition\":1", "\"edition\":null"),
+    (11, "\"edition\":1", "\"edition\":[1]"),
+    (11, "\"edition\":1", "\"edition\": 1"),
+    (11, "\"edition\":1", "\"edition\":1 "),
+    (11, "\"edition\":1", "\"edition\":4294967296"),
+    (11, "\"edition\":1", "\"edition\":18446744073709551617"),
+    (11, "\"edition\":1", "\"edition\":"),
+    (11, "\"edition\":1", "\"edition\":1,\"edition\":1"),
+    (11, "\"edition\":1", "\"edition\":1,\"more\":1"),
+    (11, "\"edition\":1", "\"editions\":1"),
+    (11, "\"edition\":1", ""),
+    (
+        11,
+        "\"actor\":{\"objectType\":\"Agent\",\"account\":{\"homePage\":\"https://p.example\",\"name\":\"k1\"}},\"edition\":1",
+        "\"edition\":1,\"actor\":{\"objectType\":\"Agent\",\"account\":{\"homePage\":\"https://p.example\",\"name\":\"k1\"}}",
+    ),
+    (
+        11,
+        "\"course\":\"http://c/1\",\"actor\":{\"objectType\":\"Agent\",\"account\":{\"homePage\":\"https://p.example\",\"name\":\"k1\"}},\"edition\":1",
+        "\"edition\":1,\"course\":\"http://c/1\",\"actor\":{\"objectType\":\"Agent\",\"account\":{\"homePage\":\"https://p.example\",\"name\":\"k1\"}}",
+    ),
+    (
+        11,
+        "\"actor\":{\"objectType\":\"Agent\",\"account\":{\"homePage\":\"https://p.example\",\"name\":\"k1\"}},",
+        "",
+    ),
+    (10, ",\"edition\":0", "\"edition\":0"),
+    (10, "\"edition\":0", "\"edition\":-0"),
 ];
 
 #[test]

@@ -23,7 +23,7 @@ draw 32 0
 admin POST /xapi/statements {"actor":{"mbox":"mailto:a@b"},"verb":{"id":"http://v/1"},"object":{"id":"http://a/1"}} => 200 ["ID22"] kept
 admin POST /desk/registrations {"course":"http://c/1","actor":ACTOR} => 200 {"registration":"ID23"} kept
 // another course, with a unit in a window of its own whose address has a query and a fragment
-admin POST /desk/courses {"id":"http://c/2","title":{"en":"C"},"children":[{"kind":"unit","id":"http://c/u","title":{"en":"U"},"url":"https://AU.example/v?x=1#f","launchMethod":"OwnWindow"}]} => 200 {"course":"http://c/2"} kept
+admin POST /desk/courses {"id":"http://c/2","title":{"en":"C"},"children":[{"kind":"unit","id":"http://c/u","title":{"en":"U"},"url":"https://AU.example/v?x=1#f","launchMethod":"OwnWindow"}]} => 200 {"course":"http://c/2","edition":1} kept
 draw 96 0
 admin POST /desk/registrations {"course":"http://c/2","actor":ACTOR} => 200 {"registration":"ID60"} kept
 draw 112 1
@@ -67,7 +67,7 @@ fn a_unit_is_launched_as_it_is_asked(rt: HostRuntime) -> Result<(), Fail> {
 // The ids of a launch are the next free ones.
 const MADE: &str = r#"
 draw 0 0
-admin POST /desk/courses {"id":"http://c/1","title":{"en":"C"},"children":[{"kind":"block","id":"http://c/b","title":{"en":"B"},"children":[{"kind":"unit","id":"http://c/u","title":{"en":"U"},"url":"https://au.example/u","moveOn":"CompletedAndPassed","masteryScore":0.8}]}]} => 200 {"course":"http://c/1"} kept
+admin POST /desk/courses {"id":"http://c/1","title":{"en":"C"},"children":[{"kind":"block","id":"http://c/b","title":{"en":"B"},"children":[{"kind":"unit","id":"http://c/u","title":{"en":"U"},"url":"https://au.example/u","moveOn":"CompletedAndPassed","masteryScore":0.8}]}]} => 200 {"course":"http://c/1","edition":1} kept
 draw 16 0
 admin POST /desk/registrations {"course":"http://c/1","actor":ACTOR} => 200 {"registration":"ID10"} kept
 admin PUT /xapi/statements?statementId=ID21 {"actor":{"mbox":"mailto:a@b"},"verb":{"id":"http://v/1"},"object":{"id":"http://a/1"}} => 204 kept

@@ -7,7 +7,7 @@ use std::test::Fail;
 // something.
 const BEFORE: &str = r#"
 draw 0 0
-admin POST /desk/courses {"id":"http://c/1","title":{"en":"C"},"children":[{"kind":"block","id":"http://c/b","title":{"en":"B"},"children":[{"kind":"unit","id":"http://c/u","title":{"en":"U"},"url":"https://au.example/u","moveOn":"CompletedAndPassed","masteryScore":0.8}]}]} => 200 {"course":"http://c/1"} kept
+admin POST /desk/courses {"id":"http://c/1","title":{"en":"C"},"children":[{"kind":"block","id":"http://c/b","title":{"en":"B"},"children":[{"kind":"unit","id":"http://c/u","title":{"en":"U"},"url":"https://au.example/u","moveOn":"CompletedAndPassed","masteryScore":0.8}]}]} => 200 {"course":"http://c/1","edition":1} kept
 draw 16 0
 admin POST /desk/registrations {"course":"http://c/1","actor":ACTOR} => 200 {"registration":"ID10"} kept
 draw 32 1
@@ -27,8 +27,8 @@ admin POST /desk/callers {"name":"p"} => 200 {"caller":0,"token":"ZEROS3-10"} ke
 
 // What is answered over what is opened again.
 const AFTER: &str = r#"
-admin POST /desk/courses {"id":"http://c/1","title":{"en":"C"},"children":[{"kind":"block","id":"http://c/b","title":{"en":"B"},"children":[{"kind":"unit","id":"http://c/u","title":{"en":"U"},"url":"https://au.example/u","moveOn":"CompletedAndPassed","masteryScore":0.8}]}]} => 200 {"course":"http://c/1"}
-admin POST /desk/courses {"id":"http://c/1","title":{"en":"C"},"children":[{"kind":"block","id":"http://c/b","title":{"en":"B"},"children":[{"kind":"unit","id":"http://c/u","title":{"en":"U"},"url":"https://au.example/u","moveOn":"CompletedAndPassed","masteryScore":0.9}]}]} => 409 {"error":"409","id":"http://c/1"}
+admin POST /desk/courses {"id":"http://c/1","title":{"en":"C"},"children":[{"kind":"block","id":"http://c/b","title":{"en":"B"},"children":[{"kind":"unit","id":"http://c/u","title":{"en":"U"},"url":"https://au.example/u","moveOn":"CompletedAndPassed","masteryScore":0.8}]}]} => 200 {"course":"http://c/1","edition":1}
+admin POST /desk/courses {"id":"http://c/1","title":{"en":"C"},"children":[{"kind":"block","id":"http://c/b","title":{"en":"B"},"children":[{"kind":"unit","id":"http://c/u","title":{"en":"U"},"url":"https://au.example/u","moveOn":"CompletedAndPassed","masteryScore":0.9}]}]} => 200 {"course":"http://c/1","edition":2} kept
 nobody POST /fetch/KEY => 200 {"error-code":"1","error-text":"The fetch key was used."}
 // what its token opens, and that its session has begun
 ZEROS2-6 GET STATE&agent=AGENT&registration=ID10 => 200 ["LMS.LaunchData","b"]
@@ -42,19 +42,19 @@ ZEROS2-6 POST /xapi/statements {INITIALIZED,FIRST} => 403 {"error":"C12"}
 ZEROS3-10 GET /xapi/statements => 200 {"statements":[],"more":""}
 // the key that wasn't used, once
 draw 0 4
-nobody POST /fetch/ZEROS1-5 => 200 {"auth-token":"ZEROS4-11"} kept
+nobody POST /fetch/ZEROS1-5 => 200 {"auth-token":"ZEROS4-12"} kept
 nobody POST /fetch/ZEROS1-5 => 200 {"error-code":"1","error-text":"The fetch key was used."}
-ZEROS4-11 GET STATE&agent=AGENT&registration=ID70 => 200 ["LMS.LaunchData"]
-ZEROS4-11 GET STATE&agent=AGENT&registration=ID10 => 403 {"error":"A3"}
+ZEROS4-12 GET STATE&agent=AGENT&registration=ID70 => 200 ["LMS.LaunchData"]
+ZEROS4-12 GET STATE&agent=AGENT&registration=ID10 => 403 {"error":"A3"}
 // the next ids, of which one goes to the statement that the first session was abandoned
 draw 32 6
-admin POST /desk/registrations/ID10/launches {"unit":"http://c/u"} => 200 {"session":"ID22","launchMethod":"AnyWindow","url":"ADDRESSZEROS6-12WHOSEID10WHICH0%2F2"} kept
+admin POST /desk/registrations/ID10/launches {"unit":"http://c/u"} => 200 {"session":"ID22","launchMethod":"AnyWindow","url":"ADDRESSZEROS6-13WHOSEID10WHICH0%2F2"} kept
 ZEROS2-6 GET /xapi/statements?verb=ADL/abandoned&format=ids => 200 {"statements":[{"actor":LEARNER,"verb":{"id":"ADL/abandoned"},"object":{"objectType":"Activity","id":"BASEactivities/0/2"},"context":{"registration":"ID10","contextActivities":{"grouping":[{"objectType":"Activity","id":"http://c/u"}],"category":[{"objectType":"Activity","id":"CMI5"}]},"extensions":{"https://w3id.org/xapi/cmi5/context/extensions/sessionid":"ID20"}},"result":{"duration":"PT0S"},"id":"ID23","timestamp":"2023-11-14T22:13:20.000Z","stored":"2023-11-14T22:13:20.000Z","authority":{"objectType":"Agent","account":{"homePage":"https://lrs.invalid/callers","name":"desk"}},"version":"1.0.0"}],"more":""}
 ZEROS2-6 GET /xapi/statements?statementId=ID24 => 200 {"actor":LEARNER,"verb":{"id":"VERB/launched","display":{"en":"launched"}},"object":{"objectType":"Activity","id":"BASEactivities/0/2"},"context":{"registration":"ID10","contextActivities":{"grouping":[{"objectType":"Activity","id":"http://c/u"}],"category":[{"objectType":"Activity","id":"CMI5"}]},"extensions":{"https://w3id.org/xapi/cmi5/context/extensions/sessionid":"ID22","https://w3id.org/xapi/cmi5/context/extensions/launchmode":"Normal","https://w3id.org/xapi/cmi5/context/extensions/launchurl":"https://au.example/u","https://w3id.org/xapi/cmi5/context/extensions/moveon":"CompletedAndPassed","https://w3id.org/xapi/cmi5/context/extensions/masteryscore":0.8}},"id":"ID24","timestamp":"2023-11-14T22:13:20.000Z","stored":"2023-11-14T22:13:20.000Z","authority":{"objectType":"Agent","name":"desk","account":{"homePage":"https://lrs.invalid/callers","name":"desk"}},"version":"1.0.0"}
 ZEROS2-6 POST /xapi/statements {TERMINATED,FIRST} => 403 {"error":"C5"}
 draw 16 0
 admin POST /desk/registrations {"course":"http://c/1","actor":ACTOR} => 200 {"registration":"ID11"} kept
-admin POST /desk/callers {"name":"q"} => 200 {"caller":1,"token":"00000000000000000000000000000000-14"} kept
+admin POST /desk/callers {"name":"q"} => 200 {"caller":1,"token":"00000000000000000000000000000000-15"} kept
 "#;
 
 #[test]
@@ -85,9 +85,9 @@ nobody POST /fetch/ZEROS4-10 => 200 {"auth-token":"ZEROS5-12"} kept
 "#;
 
 const AS_ENDED: &str = r#"
-admin GET /desk/registrations/ID10 => 200 {"registration":"ID10","course":"http://c/1","satisfied":true,"nodes":[{"id":"http://c/1","kind":"course","satisfied":true},{"id":"http://c/b","kind":"block","satisfied":true},{"id":"http://c/u","kind":"unit","satisfied":true}]}
-admin GET /desk/registrations/ID30 => 200 {"registration":"ID30","course":"http://c/1","satisfied":true,"nodes":[{"id":"http://c/1","kind":"course","satisfied":true},{"id":"http://c/b","kind":"block","satisfied":true},{"id":"http://c/u","kind":"unit","satisfied":true}]}
-admin GET /desk/registrations/ID60 => 200 {"registration":"ID60","course":"http://c/1","satisfied":false,"nodes":[{"id":"http://c/1","kind":"course","satisfied":false},{"id":"http://c/b","kind":"block","satisfied":false},{"id":"http://c/u","kind":"unit","satisfied":false}]}
+admin GET /desk/registrations/ID10 => 200 {"registration":"ID10","course":"http://c/1","edition":1,"satisfied":true,"nodes":[{"id":"http://c/1","kind":"course","satisfied":true},{"id":"http://c/b","kind":"block","satisfied":true},{"id":"http://c/u","kind":"unit","satisfied":true}]}
+admin GET /desk/registrations/ID30 => 200 {"registration":"ID30","course":"http://c/1","edition":1,"satisfied":true,"nodes":[{"id":"http://c/1","kind":"course","satisfied":true},{"id":"http://c/b","kind":"block","satisfied":true},{"id":"http://c/u","kind":"unit","satisfied":true}]}
+admin GET /desk/registrations/ID60 => 200 {"registration":"ID60","course":"http://c/1","edition":1,"satisfied":false,"nodes":[{"id":"http://c/1","kind":"course","satisfied":false},{"id":"http://c/b","kind":"block","satisfied":false},{"id":"http://c/u","kind":"unit","satisfied":false}]}
 // what is said and done isn't said and done again
 admin POST /desk/registrations/ID30/waive {"unit":"http://c/u","reason":"Tested Out"} => 204
 admin POST /desk/sessions/ID50/abandon {} => 204
@@ -135,7 +135,7 @@ TOKEN POST /xapi/statements {TERMINATED,FIRST} => 403 {"error":"C5"}
 TOKEN GET STATE&agent=AGENT&registration=ID10 => 200 ["LMS.LaunchData"]
 admin POST /desk/sessions/ID20/abandon {} => 204
 admin POST /desk/sessions/ID50/abandon {} => 204
-admin GET /desk/registrations/ID10 => 200 {"registration":"ID10","course":"http://c/1","satisfied":false,"nodes":[{"id":"http://c/1","kind":"course","satisfied":false},{"id":"http://c/b","kind":"block","satisfied":false},{"id":"http://c/u","kind":"unit","satisfied":false}]}
+admin GET /desk/registrations/ID10 => 200 {"registration":"ID10","course":"http://c/1","edition":1,"satisfied":false,"nodes":[{"id":"http://c/1","kind":"course","satisfied":false},{"id":"http://c/b","kind":"block","satisfied":false},{"id":"http://c/u","kind":"unit","satisfied":false}]}
 admin GET /xapi/statements?verb=ADL/abandoned&format=ids => 200 {"statements":[{"actor":LEARNER,"verb":{"id":"ADL/abandoned"},"object":{"objectType":"Activity","id":"BASEactivities/0/2"},"context":{"registration":"ID10","contextActivities":{"grouping":[{"objectType":"Activity","id":"http://c/u"}],"category":[{"objectType":"Activity","id":"CMI5"}]},"extensions":{"https://w3id.org/xapi/cmi5/context/extensions/sessionid":"ID20"}},"result":{"duration":"PT0S"},"id":"ID80","timestamp":"2023-11-14T22:14:20.000Z","stored":"2023-11-14T22:14:20.000Z","authority":{"objectType":"Agent","account":{"homePage":"https://lrs.invalid/callers","name":"desk"}},"version":"1.0.0"}],"more":""}
 // the last one is idle from its launch on
 clock 1700000119999

@@ -193,7 +193,7 @@ fn who_browses_has_no_result(rt: HostRuntime) -> Result<(), Fail> {
 // Two units of one registration, and one of them in another: `u` is completed and passed by a session, `v` by another.
 const UNITS: &str = r#"
 draw 0 0
-admin POST /desk/courses {"id":"http://c/1","title":{"en":"C"},"children":[{"kind":"unit","id":"http://c/v","title":{"en":"V"},"url":"https://au.example/u","moveOn":"Passed"},{"kind":"unit","id":"http://c/u","title":{"en":"U"},"url":"https://au.example/u","moveOn":"Passed"},{"kind":"unit","id":"http://c/w","title":{"en":"W"},"url":"https://au.example/u","moveOn":"Passed"}]} => 200 {"course":"http://c/1"} kept
+admin POST /desk/courses {"id":"http://c/1","title":{"en":"C"},"children":[{"kind":"unit","id":"http://c/v","title":{"en":"V"},"url":"https://au.example/u","moveOn":"Passed"},{"kind":"unit","id":"http://c/u","title":{"en":"U"},"url":"https://au.example/u","moveOn":"Passed"},{"kind":"unit","id":"http://c/w","title":{"en":"W"},"url":"https://au.example/u","moveOn":"Passed"}]} => 200 {"course":"http://c/1","edition":1} kept
 draw 16 0
 admin POST /desk/registrations {"course":"http://c/1","actor":ACTOR} => 200 {"registration":"ID10"} kept
 admin POST /desk/registrations {"course":"http://c/1","actor":ACTOR} => 200 {"registration":"ID11"} kept

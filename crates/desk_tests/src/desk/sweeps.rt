@@ -29,7 +29,7 @@ fn a_sweep_abandons_from_its_seconds_on(rt: HostRuntime) -> Result<(), Fail> {
 // A session that is never fetched is idle from its launch on: not from the enrolment before it, nor from one behind it.
 const LAUNCHED: &str = r#"
 draw 0 0
-admin POST /desk/courses {"id":"http://c/1","title":{"en":"C"},"children":[{"kind":"unit","id":"http://c/u","title":{"en":"U"},"url":"https://au.example/u","moveOn":"Passed"}]} => 200 {"course":"http://c/1"} kept
+admin POST /desk/courses {"id":"http://c/1","title":{"en":"C"},"children":[{"kind":"unit","id":"http://c/u","title":{"en":"U"},"url":"https://au.example/u","moveOn":"Passed"}]} => 200 {"course":"http://c/1","edition":1} kept
 draw 16 0
 admin POST /desk/registrations {"course":"http://c/1","actor":ACTOR} => 200 {"registration":"ID10"} kept
 clock 1700000005000
@@ -182,10 +182,10 @@ const RESULTS: &str = r#"
 sample
 draw 64 0
 TOKEN POST /xapi/statements [{INITIALIZED,FIRST},{COMPLETED,FIRST}] => 200 ["ID40","ID41"] kept
-admin GET /desk/registrations/ID10 => 200 {"registration":"ID10","course":"http://c/1","satisfied":false,"nodes":[{"id":"http://c/1","kind":"course","satisfied":false},{"id":"http://c/b","kind":"block","satisfied":false},{"id":"http://c/u","kind":"unit","satisfied":false}]}
+admin GET /desk/registrations/ID10 => 200 {"registration":"ID10","course":"http://c/1","edition":1,"satisfied":false,"nodes":[{"id":"http://c/1","kind":"course","satisfied":false},{"id":"http://c/b","kind":"block","satisfied":false},{"id":"http://c/u","kind":"unit","satisfied":false}]}
 draw 96 0
 admin POST /desk/sweep {"idle":0} => 200 {"abandoned":["ID20"]} kept
-admin GET /desk/registrations/ID10 => 200 {"registration":"ID10","course":"http://c/1","satisfied":false,"nodes":[{"id":"http://c/1","kind":"course","satisfied":false},{"id":"http://c/b","kind":"block","satisfied":false},{"id":"http://c/u","kind":"unit","satisfied":false}]}
+admin GET /desk/registrations/ID10 => 200 {"registration":"ID10","course":"http://c/1","edition":1,"satisfied":false,"nodes":[{"id":"http://c/1","kind":"course","satisfied":false},{"id":"http://c/b","kind":"block","satisfied":false},{"id":"http://c/u","kind":"unit","satisfied":false}]}
 draw 48 3
 admin POST /desk/registrations/ID10/launches {"unit":"http://c/u"} => 200 {"session":"ID30","launchMethod":"AnyWindow","url":"ADDRESSZEROS3-7WHOSEID10WHICH0%2F2"} kept
 draw 0 4
@@ -193,12 +193,12 @@ nobody POST /fetch/ZEROS3-7 => 200 {"auth-token":"ZEROS4-8"} kept
 draw 112 0
 ZEROS4-8 POST /xapi/statements [{INITIALIZED,SECOND},{COMPLETED,SECOND}] => 403 {"error":"C16"}
 ZEROS4-8 POST /xapi/statements [{INITIALIZED,SECOND},{PASSED,SECOND}] => 200 ["ID70","ID71"] kept
-admin GET /desk/registrations/ID10 => 200 {"registration":"ID10","course":"http://c/1","satisfied":true,"nodes":[{"id":"http://c/1","kind":"course","satisfied":true},{"id":"http://c/b","kind":"block","satisfied":true},{"id":"http://c/u","kind":"unit","satisfied":true}]}
+admin GET /desk/registrations/ID10 => 200 {"registration":"ID10","course":"http://c/1","edition":1,"satisfied":true,"nodes":[{"id":"http://c/1","kind":"course","satisfied":true},{"id":"http://c/b","kind":"block","satisfied":true},{"id":"http://c/u","kind":"unit","satisfied":true}]}
 // behind two satisfied statements
 admin POST /desk/sessions/ID30/abandon {} => 204 kept
 admin GET /xapi/statements?statementId=ID74&format=ids => 200 {"actor":LEARNER,"verb":{"id":"ADL/abandoned"},"object":{"objectType":"Activity","id":"BASEactivities/0/2"},"context":{"registration":"ID10","contextActivities":{"grouping":[{"objectType":"Activity","id":"http://c/u"}],"category":[{"objectType":"Activity","id":"CMI5"}]},"extensions":{"https://w3id.org/xapi/cmi5/context/extensions/sessionid":"ID30"}},"result":{"duration":"PT0S"},"id":"ID74","timestamp":"2023-11-14T22:13:20.000Z","stored":"2023-11-14T22:13:20.000Z","authority":{"objectType":"Agent","account":{"homePage":"https://lrs.invalid/callers","name":"desk"}},"version":"1.0.0"}
 admin GET /xapi/statements?statementId=ID75 => 404 {"error":"404"}
-admin GET /desk/registrations/ID10 => 200 {"registration":"ID10","course":"http://c/1","satisfied":true,"nodes":[{"id":"http://c/1","kind":"course","satisfied":true},{"id":"http://c/b","kind":"block","satisfied":true},{"id":"http://c/u","kind":"unit","satisfied":true}]}
+admin GET /desk/registrations/ID10 => 200 {"registration":"ID10","course":"http://c/1","edition":1,"satisfied":true,"nodes":[{"id":"http://c/1","kind":"course","satisfied":true},{"id":"http://c/b","kind":"block","satisfied":true},{"id":"http://c/u","kind":"unit","satisfied":true}]}
 "#;
 
 #[test]

@@ -6,7 +6,7 @@ use std::test::Fail;
 // Units with other members than the sample one: their addresses, data and launched statements.
 const UNITS: &str = r#"
 draw 0 0
-admin POST /desk/courses {"id":"http://c/1","title":{"en":"C"},"children":[{"kind":"unit","id":"http://c/u","title":{"en":"U"},"url":"https://au.example/u","moveOn":"Passed","launchParameters":"a=\"1\"\u000a&b","entitlementKey":"e/1 x"},{"kind":"unit","id":"http://c/v","title":{"en":"V"},"url":"HTTPS://AU.example/v","masteryScore":0.50,"launchParameters":"","entitlementKey":"","launchMethod":"OwnWindow"},{"kind":"unit","id":"http://c/w","title":{"en":"W"},"url":"https://au.example/w?"}]} => 200 {"course":"http://c/1"} kept
+admin POST /desk/courses {"id":"http://c/1","title":{"en":"C"},"children":[{"kind":"unit","id":"http://c/u","title":{"en":"U"},"url":"https://au.example/u","moveOn":"Passed","launchParameters":"a=\"1\"\u000a&b","entitlementKey":"e/1 x"},{"kind":"unit","id":"http://c/v","title":{"en":"V"},"url":"HTTPS://AU.example/v","masteryScore":0.50,"launchParameters":"","entitlementKey":"","launchMethod":"OwnWindow"},{"kind":"unit","id":"http://c/w","title":{"en":"W"},"url":"https://au.example/w?"}]} => 200 {"course":"http://c/1","edition":1} kept
 draw 16 0
 admin POST /desk/registrations {"course":"http://c/1","actor":ACTOR} => 200 {"registration":"ID10"} kept
 draw 32 1
@@ -35,7 +35,7 @@ fn units_are_launched_with_what_they_have(rt: HostRuntime) -> Result<(), Fail> {
 // A learner whose name and account have characters that are escaped.
 const LEARNER: &str = r#"
 draw 0 0
-admin POST /desk/courses {"id":"http://c/1","title":{"en":"C"},"children":[{"kind":"block","id":"http://c/b","title":{"en":"B"},"children":[{"kind":"unit","id":"http://c/u","title":{"en":"U"},"url":"https://au.example/u","moveOn":"CompletedAndPassed","masteryScore":0.8}]}]} => 200 {"course":"http://c/1"} kept
+admin POST /desk/courses {"id":"http://c/1","title":{"en":"C"},"children":[{"kind":"block","id":"http://c/b","title":{"en":"B"},"children":[{"kind":"unit","id":"http://c/u","title":{"en":"U"},"url":"https://au.example/u","moveOn":"CompletedAndPassed","masteryScore":0.8}]}]} => 200 {"course":"http://c/1","edition":1} kept
 draw 16 0
 admin POST /desk/registrations {"course":"http://c/1","actor":{"account":{"name":"k\u00222","homePage":"https://p.example/\u00e9"},"name":"K \"2\" \\ \u00e9\u0009\/\u0001"}} => 200 {"registration":"ID10"} kept
 draw 32 1

@@ -76,7 +76,7 @@ fn push_told_units(alloc: Global, text: &mut String, asking: u32, met: &str) -> 
 // How far a learner has come, where that unit is met or not, and with it all that holds it.
 fn standing(alloc: Global, asking: u32, met: &str) -> Result<String, Fail> {
     let mut text = format!(in alloc;
-        "\"course\":\"http://c/1\",\"satisfied\":{met},\"nodes\":[{{\"id\":\"http://c/1\",\"kind\":\"course\",\"satisfied\":{met}}}"
+        "\"course\":\"http://c/1\",\"edition\":1,\"satisfied\":{met},\"nodes\":[{{\"id\":\"http://c/1\",\"kind\":\"course\",\"satisfied\":{met}}}"
     )?;
     push_told_blocks(alloc, &mut text, met)?;
     push_told_units(alloc, &mut text, asking, met)?;
@@ -87,7 +87,7 @@ fn standing(alloc: Global, asking: u32, met: &str) -> Result<String, Fail> {
 // One learner passes the unit that asks for it, `UNIT` of number `NODE` in the course. For another one it is waived.
 const ROWS: &str = r#"
 draw 0 0
-admin POST /desk/courses COURSE => 200 {"course":"http://c/1"} kept
+admin POST /desk/courses COURSE => 200 {"course":"http://c/1","edition":1} kept
 draw 16 0
 admin POST /desk/registrations {"course":"http://c/1","actor":ACTOR} => 200 {"registration":"ID10"} kept
 admin GET /desk/registrations/ID10 => 200 {"registration":"ID10",BEFORE

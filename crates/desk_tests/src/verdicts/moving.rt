@@ -27,7 +27,7 @@ const WORDS: [(&str, &str); 19] = [
     ("FREE", "ZEROSa-12"),
     (
         "TOLD",
-        r#"{"registration":"ID10","course":"http://c/1","satisfied":"#,
+        r#"{"registration":"ID10","course":"http://c/1","edition":1,"satisfied":"#,
     ),
     (
         "NODES",
@@ -44,7 +44,7 @@ const WORDS: [(&str, &str); 19] = [
 // which asks for nothing, is met all along. The course is told to be satisfied once.
 const SAID: &str = r#"
 draw 0 0
-admin POST /desk/courses COURSE => 200 {"course":"http://c/1"} kept
+admin POST /desk/courses COURSE => 200 {"course":"http://c/1","edition":1} kept
 draw 16 0
 admin POST /desk/registrations {"course":"http://c/1","actor":ACTOR} => 200 {"registration":"ID10"} kept
 draw 32 1
@@ -116,7 +116,7 @@ fn a_unit_is_met_by_what_its_sessions_say(rt: HostRuntime) -> Result<(), Fail> {
 // A failed meets nothing, nor does a passed without the category of cmi5.
 const UNMET: &str = r#"
 draw 0 0
-admin POST /desk/courses COURSE => 200 {"course":"http://c/1"} kept
+admin POST /desk/courses COURSE => 200 {"course":"http://c/1","edition":1} kept
 draw 16 0
 admin POST /desk/registrations {"course":"http://c/1","actor":ACTOR} => 200 {"registration":"ID10"} kept
 draw 32 1
@@ -138,7 +138,7 @@ fn nothing_else_meets_a_unit(rt: HostRuntime) -> Result<(), Fail> {
 // A waiver in place of each. That of the first unit, which is met already, is taken, too.
 const WAIVED: &str = r#"
 draw 0 0
-admin POST /desk/courses COURSE => 200 {"course":"http://c/1"} kept
+admin POST /desk/courses COURSE => 200 {"course":"http://c/1","edition":1} kept
 draw 16 0
 admin POST /desk/registrations {"course":"http://c/1","actor":ACTOR} => 200 {"registration":"ID10"} kept
 draw 32 0

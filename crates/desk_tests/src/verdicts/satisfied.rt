@@ -11,18 +11,18 @@ draw 80 0
 TOKEN PUT /xapi/statements?statementId=ID90 {INITIALIZED,FIRST} => 204 kept
 TOKEN PUT /xapi/statements?statementId=ID91 {PASSED,FIRST} => 204 kept
 admin GET /xapi/statements?statementId=ID50 => 404 {"error":"404"}
-admin GET /desk/registrations/ID10 => 200 {"registration":"ID10","course":"http://c/1","satisfied":false,"nodes":[{"id":"http://c/1","kind":"course","satisfied":false},{"id":"http://c/b","kind":"block","satisfied":false},{"id":"http://c/u","kind":"unit","satisfied":false}]}
+admin GET /desk/registrations/ID10 => 200 {"registration":"ID10","course":"http://c/1","edition":1,"satisfied":false,"nodes":[{"id":"http://c/1","kind":"course","satisfied":false},{"id":"http://c/b","kind":"block","satisfied":false},{"id":"http://c/u","kind":"unit","satisfied":false}]}
 draw 64 0
 TOKEN PUT /xapi/statements?statementId=ID92 {COMPLETED,FIRST} => 204 kept
 admin GET /xapi/statements?statementId=ID40 => 200 {"actor":LEARNER,"verb":{"id":"ADL/satisfied","display":{"en":"satisfied"}},"object":{"objectType":"Activity","id":"BASEactivities/0/1","definition":{"type":"https://w3id.org/xapi/cmi5/activitytype/block"}},"context":{"registration":"ID10","contextActivities":{"grouping":[{"objectType":"Activity","id":"http://c/b"}],"category":[{"objectType":"Activity","id":"CMI5"}]},"extensions":{"https://w3id.org/xapi/cmi5/context/extensions/sessionid":"ID20"}},"id":"ID40","timestamp":"2023-11-14T22:13:20.000Z","stored":"2023-11-14T22:13:20.000Z","authority":{"objectType":"Agent","name":"desk","account":{"homePage":"https://lrs.invalid/callers","name":"desk"}},"version":"1.0.0"}
 admin GET /xapi/statements?statementId=ID41 => 200 {"actor":LEARNER,"verb":{"id":"ADL/satisfied","display":{"en":"satisfied"}},"object":{"objectType":"Activity","id":"BASEactivities/0/0","definition":{"type":"https://w3id.org/xapi/cmi5/activitytype/course"}},"context":{"registration":"ID10","contextActivities":{"grouping":[{"objectType":"Activity","id":"http://c/1"}],"category":[{"objectType":"Activity","id":"CMI5"}]},"extensions":{"https://w3id.org/xapi/cmi5/context/extensions/sessionid":"ID20"}},"id":"ID41","timestamp":"2023-11-14T22:13:20.000Z","stored":"2023-11-14T22:13:20.000Z","authority":{"objectType":"Agent","name":"desk","account":{"homePage":"https://lrs.invalid/callers","name":"desk"}},"version":"1.0.0"}
 admin GET /xapi/statements?statementId=ID42 => 404 {"error":"404"}
-admin GET /desk/registrations/ID10 => 200 {"registration":"ID10","course":"http://c/1","satisfied":true,"nodes":[{"id":"http://c/1","kind":"course","satisfied":true},{"id":"http://c/b","kind":"block","satisfied":true},{"id":"http://c/u","kind":"unit","satisfied":true}]}
+admin GET /desk/registrations/ID10 => 200 {"registration":"ID10","course":"http://c/1","edition":1,"satisfied":true,"nodes":[{"id":"http://c/1","kind":"course","satisfied":true},{"id":"http://c/b","kind":"block","satisfied":true},{"id":"http://c/u","kind":"unit","satisfied":true}]}
 draw 96 0
 admin POST /xapi/statements VOIDS"ID91"}} => 200 ["ID60"] kept
-admin GET /desk/registrations/ID10 => 200 {"registration":"ID10","course":"http://c/1","satisfied":false,"nodes":[{"id":"http://c/1","kind":"course","satisfied":false},{"id":"http://c/b","kind":"block","satisfied":false},{"id":"http://c/u","kind":"unit","satisfied":false}]}
+admin GET /desk/registrations/ID10 => 200 {"registration":"ID10","course":"http://c/1","edition":1,"satisfied":false,"nodes":[{"id":"http://c/1","kind":"course","satisfied":false},{"id":"http://c/b","kind":"block","satisfied":false},{"id":"http://c/u","kind":"unit","satisfied":false}]}
 TOKEN PUT /xapi/statements?statementId=ID93 {PASSED,FIRST} => 204 kept
-admin GET /desk/registrations/ID10 => 200 {"registration":"ID10","course":"http://c/1","satisfied":true,"nodes":[{"id":"http://c/1","kind":"course","satisfied":true},{"id":"http://c/b","kind":"block","satisfied":true},{"id":"http://c/u","kind":"unit","satisfied":true}]}
+admin GET /desk/registrations/ID10 => 200 {"registration":"ID10","course":"http://c/1","edition":1,"satisfied":true,"nodes":[{"id":"http://c/1","kind":"course","satisfied":true},{"id":"http://c/b","kind":"block","satisfied":true},{"id":"http://c/u","kind":"unit","satisfied":true}]}
 admin GET /xapi/statements?statementId=ID61 => 404 {"error":"404"}
 // what is said again, and what is refused, brings nothing
 TOKEN PUT /xapi/statements?statementId=ID93 {PASSED,FIRST} => 204
@@ -40,7 +40,7 @@ draw 0 4
 nobody POST /fetch/ZEROS3-13 => 200 {"auth-token":"ZEROS4-14"} kept
 draw 128 0
 ZEROS4-14 POST /xapi/statements [{INITIALIZED,SAYING"ID70"}}},{PASSED,SAYING"ID70"}}}] => 200 ["ID80","ID81"] kept
-admin GET /desk/registrations/ID10 => 200 {"registration":"ID10","course":"http://c/1","satisfied":true,"nodes":[{"id":"http://c/1","kind":"course","satisfied":true},{"id":"http://c/b","kind":"block","satisfied":true},{"id":"http://c/u","kind":"unit","satisfied":true}]}
+admin GET /desk/registrations/ID10 => 200 {"registration":"ID10","course":"http://c/1","edition":1,"satisfied":true,"nodes":[{"id":"http://c/1","kind":"course","satisfied":true},{"id":"http://c/b","kind":"block","satisfied":true},{"id":"http://c/u","kind":"unit","satisfied":true}]}
 admin GET /xapi/statements?statementId=ID82 => 404 {"error":"404"}
 "#;
 
@@ -68,10 +68,10 @@ fn a_batch_satisfies_behind_itself(rt: HostRuntime) -> Result<(), Fail> {
 // A course that asks for nothing: it is satisfied as soon as a learner is enrolled, and a session is made for saying so.
 const AT_ONCE: &str = r#"
 draw 0 0
-admin POST /desk/courses {"id":"http://c/2","title":{"en":"C"},"children":[{"kind":"unit","id":"http://c/2/u","title":{"en":"U"},"url":"https://au.example/u"}]} => 200 {"course":"http://c/2"} kept
+admin POST /desk/courses {"id":"http://c/2","title":{"en":"C"},"children":[{"kind":"unit","id":"http://c/2/u","title":{"en":"U"},"url":"https://au.example/u"}]} => 200 {"course":"http://c/2","edition":1} kept
 draw 16 0
 admin POST /desk/registrations {"course":"http://c/2","actor":ACTOR} => 200 {"registration":"ID10"} kept
-admin GET /desk/registrations/ID10 => 200 {"registration":"ID10","course":"http://c/2","satisfied":true,"nodes":[{"id":"http://c/2","kind":"course","satisfied":true},{"id":"http://c/2/u","kind":"unit","satisfied":true}]}
+admin GET /desk/registrations/ID10 => 200 {"registration":"ID10","course":"http://c/2","edition":1,"satisfied":true,"nodes":[{"id":"http://c/2","kind":"course","satisfied":true},{"id":"http://c/2/u","kind":"unit","satisfied":true}]}
 admin GET /xapi/statements => 200 {"statements":[{"actor":LEARNER,"verb":{"id":"ADL/satisfied","display":{"en":"satisfied"}},"object":{"objectType":"Activity","id":"BASEactivities/0/0","definition":{"type":"https://w3id.org/xapi/cmi5/activitytype/course"}},"context":{"registration":"ID10","contextActivities":{"grouping":[{"objectType":"Activity","id":"http://c/2"}],"category":[{"objectType":"Activity","id":"CMI5"}]},"extensions":{"https://w3id.org/xapi/cmi5/context/extensions/sessionid":"ID11"}},"id":"ID12","timestamp":"2023-11-14T22:13:20.000Z","stored":"2023-11-14T22:13:20.000Z","authority":{"objectType":"Agent","name":"desk","account":{"homePage":"https://lrs.invalid/callers","name":"desk"}},"version":"1.0.0"}],"more":""}
 // that session is no launch's, and its id is used
 admin POST /desk/sessions/ID11/abandon {} => 404 {"error":"404"}
@@ -133,7 +133,7 @@ const WORDS: [(&str, &str); 20] = [
         "AT_LAST",
         r#"","timestamp":"2023-11-14T22:13:20.000Z","stored":"2023-11-14T22:13:20.000Z","authority":{"objectType":"Agent","account":{"homePage":"https://lrs.invalid/callers","name":"desk"}},"version":"1.0.0"}"#,
     ),
-    ("TOLD", r#","course":"http://c/1","satisfied":"#),
+    ("TOLD", r#","course":"http://c/1","edition":1,"satisfied":"#),
     (
         "NODES",
         r#","nodes":[{"id":"http://c/1","kind":"course","satisfied":"#,
@@ -164,7 +164,7 @@ const WORDS: [(&str, &str); 20] = [
 // in the order of the text.
 const BLOCKS: &str = r#"
 draw 0 0
-admin POST /desk/courses TREE => 200 {"course":"http://c/1"} kept
+admin POST /desk/courses TREE => 200 {"course":"http://c/1","edition":1} kept
 draw 16 0
 admin POST /desk/registrations {"course":"http://c/1","actor":ACTOR} => 200 {"registration":"ID10"} kept
 admin GET /xapi/statements?format=ids&ascending=true => 200 {"statements":[OF_NODE2IN_ONExaBY_ID11AS_ID12AT_LAST,OF_NODE7IN_ONEyaBY_ID11AS_ID13AT_LAST,OF_NODE6IN_ONEyBY_ID11AS_ID14AT_LAST],"more":""}
@@ -206,8 +206,8 @@ fn deeper_blocks_are_told_first(rt: HostRuntime) -> Result<(), Fail> {
 // Who asks for a registration, and what isn't there.
 const ASKED: &str = r#"
 sample
-admin GET /desk/registrations/ID10 => 200 {"registration":"ID10","course":"http://c/1","satisfied":false,"nodes":[{"id":"http://c/1","kind":"course","satisfied":false},{"id":"http://c/b","kind":"block","satisfied":false},{"id":"http://c/u","kind":"unit","satisfied":false}]}
-admin GET /desk/registrations/ID10 { => 200 {"registration":"ID10","course":"http://c/1","satisfied":false,"nodes":[{"id":"http://c/1","kind":"course","satisfied":false},{"id":"http://c/b","kind":"block","satisfied":false},{"id":"http://c/u","kind":"unit","satisfied":false}]}
+admin GET /desk/registrations/ID10 => 200 {"registration":"ID10","course":"http://c/1","edition":1,"satisfied":false,"nodes":[{"id":"http://c/1","kind":"course","satisfied":false},{"id":"http://c/b","kind":"block","satisfied":false},{"id":"http://c/u","kind":"unit","satisfied":false}]}
+admin GET /desk/registrations/ID10 { => 200 {"registration":"ID10","course":"http://c/1","edition":1,"satisfied":false,"nodes":[{"id":"http://c/1","kind":"course","satisfied":false},{"id":"http://c/b","kind":"block","satisfied":false},{"id":"http://c/u","kind":"unit","satisfied":false}]}
 admin GET /desk/registrations/ID20 => 404 {"error":"404"}
 admin GET /desk/registrations/10 => 404 {"error":"404"}
 admin GET /desk/registrations/ID10?a=b => 400 {"error":"P2"}

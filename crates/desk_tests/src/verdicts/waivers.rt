@@ -5,7 +5,10 @@ use std::test::Fail;
 
 // `TOLD` and what follows it is how far the learner of the sample course has come in a registration.
 const WORDS: [(&str, &str); 4] = [
-    ("TOLD", r#"","course":"http://c/1","satisfied":"#),
+    (
+        "TOLD",
+        r#"","course":"http://c/1","edition":1,"satisfied":"#,
+    ),
     (
         "NODES",
         r#","nodes":[{"id":"http://c/1","kind":"course","satisfied":"#,

@@ -37,7 +37,14 @@ fn show_write(write: &Write, into: &mut String) -> Result<(), Fail> {
         } => show_dropped(activity, state, into),
         Write::Found { .. } => show_word("found", into),
         Write::Course { tree } => show_course(tree, into),
-        Write::Enrol { course, actor } => show_enrolment(course, actor, into),
+        Write::Enrol {
+            course,
+            actor,
+            edition,
+        } => {
+            show_enrolment(course, actor, into)?;
+            show_edition(*edition, into)
+        }
         Write::Launch {
             registration,
             unit,
@@ -105,6 +112,13 @@ fn show_enrolment(course: &Iri, actor: &Agent, into: &mut String) -> Result<(), 
     }
     if let Some(name) = &actor.name {
         write!(into, " ({})", name.as_str())?;
+    }
+    Ok(())
+}
+
+fn show_edition(edition: Option<u32>, into: &mut String) -> Result<(), Fail> {
+    if let Some(number) = edition {
+        write!(into, " edition {number}")?;
     }
     Ok(())
 }

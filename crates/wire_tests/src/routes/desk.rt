@@ -120,7 +120,7 @@ fn reads_courses(rt: HostRuntime) -> Result<(), Fail> {
     check_rows(rt.alloc(), COURSES)
 }
 
-// An enrolment has exactly two members: the id of a course, and an Agent that is known by an account.
+// An enrolment has the id of a course, and an Agent that is known by an account. It may name an edition.
 const ENROLMENTS: &str = r#"
 version -
 media text/plain
@@ -144,6 +144,64 @@ POST /desk/registrations {"course":"c1","actor":{}} => token-1: Desk 400 B3
 #[test]
 fn reads_enrolments(rt: HostRuntime) -> Result<(), Fail> {
     check_rows(rt.alloc(), ENROLMENTS)
+}
+
+// An edition is a number of 1 to 9 digits that doesn't begin with 0. What is wrong with other members goes before it.
+const EDITIONS: &str = r#"
+version -
+media text/plain
+POST /desk/registrations {"course":"http://c/1","actor":{"account":{"homePage":"http://p","name":"k"}},"edition":1} => token-1: enrol in http://c/1 http://p k edition 1
+POST /desk/registrations {"course":"http://c/1","actor":{"account":{"homePage":"http://p","name":"k"}},"edition":2} => token-1: enrol in http://c/1 http://p k edition 2
+POST /desk/registrations {"course":"http://c/1","actor":{"account":{"homePage":"http://p","name":"k"}},"edition":10} => token-1: enrol in http://c/1 http://p k edition 10
+POST /desk/registrations {"course":"http://c/1","actor":{"account":{"homePage":"http://p","name":"k"}},"edition":999999999} => token-1: enrol in http://c/1 http://p k edition 999999999
+POST /desk/registrations { "edition" : 7 , "actor":{"account":{"homePage":"http://p","name":"k"}},"course":"http://c/1"} => token-1: enrol in http://c/1 http://p k edition 7
+POST /desk/registrations {"course":"http://c/1","actor":{"name":"Ann","account":{"homePage":"http://p","name":"k"}},"\u0065dition":3} => token-1: enrol in http://c/1 http://p k (Ann) edition 3
+POST /desk/registrations {"course":"http://c/1","actor":{"account":{"homePage":"http://p","name":"k"}},"edition":0} => token-1: Desk 400 B10
+POST /desk/registrations {"course":"http://c/1","actor":{"account":{"homePage":"http://p","name":"k"}},"edition":1000000000} => token-1: Desk 400 B10
+POST /desk/registrations {"course":"http://c/1","actor":{"account":{"homePage":"http://p","name":"k"}},"edition":4294967295} => token-1: Desk 400 B10
+POST /desk/registrations {"course":"http://c/1","actor":{"account":{"homePage":"http://p","name":"k"}},"edition":4294967296} => token-1: Desk 400 B10
+POST /desk/registrations {"course":"http://c/1","actor":{"account":{"homePage":"http://p","name":"k"}},"edition":4294967297} => token-1: Desk 400 B10
+POST /desk/registrations {"course":"http://c/1","actor":{"account":{"homePage":"http://p","name":"k"}},"edition":18446744073709551617} => token-1: Desk 400 B10
+POST /desk/registrations {"course":"http://c/1","actor":{"account":{"homePage":"http://p","name":"k"}},"edition":-1} => token-1: Desk 400 B10
+POST /desk/registrations {"course":"http://c/1","actor":{"account":{"homePage":"http://p","name":"k"}},"edition":-0} => token-1: Desk 400 B10
+POST /desk/registrations {"course":"http://c/1","actor":{"account":{"homePage":"http://p","name":"k"}},"edition":0.5} => token-1: Desk 400 B10
+POST /desk/registrations {"course":"http://c/1","actor":{"account":{"homePage":"http://p","name":"k"}},"edition":1.0} => token-1: Desk 400 B10
+POST /desk/registrations {"course":"http://c/1","actor":{"account":{"homePage":"http://p","name":"k"}},"edition":1e0} => token-1: Desk 400 B10
+POST /desk/registrations {"course":"http://c/1","actor":{"account":{"homePage":"http://p","name":"k"}},"edition":1E+1} => token-1: Desk 400 B10
+POST /desk/registrations {"course":"http://c/1","actor":{"account":{"homePage":"http://p","name":"k"}},"edition":10e-1} => token-1: Desk 400 B10
+POST /desk/registrations {"course":"http://c/1","actor":{"account":{"homePage":"http://p","name":"k"}},"edition":"1"} => token-1: Desk 400 B10
+POST /desk/registrations {"course":"http://c/1","actor":{"account":{"homePage":"http://p","name":"k"}},"edition":""} => token-1: Desk 400 B10
+POST /desk/registrations {"course":"http://c/1","actor":{"account":{"homePage":"http://p","name":"k"}},"edition":null} => token-1: Desk 400 B10
+POST /desk/registrations {"course":"http://c/1","actor":{"account":{"homePage":"http://p","name":"k"}},"edition":true} => token-1: Desk 400 B10
+POST /desk/registrations {"course":"http://c/1","actor":{"account":{"homePage":"http://p","name":"k"}},"edition":[1]} => token-1: Desk 400 B10
+POST /desk/registrations {"course":"http://c/1","actor":{"account":{"homePage":"http://p","name":"k"}},"edition":{}} => token-1: Desk 400 B10
+POST /desk/registrations {"course":"http://c/1","actor":{"account":{"homePage":"http://p","name":"k"}},"edition":{"edition":1}} => token-1: Desk 400 B10
+POST /desk/registrations {"course":"http://c/1","actor":{"account":{"homePage":"http://p","name":"k"}},"edition":01} => token-1: Desk 400 J2
+POST /desk/registrations {"course":"http://c/1","actor":{"account":{"homePage":"http://p","name":"k"}},"edition":00} => token-1: Desk 400 J2
+POST /desk/registrations {"course":"http://c/1","actor":{"account":{"homePage":"http://p","name":"k"}},"edition":0001} => token-1: Desk 400 J2
+POST /desk/registrations {"course":"http://c/1","actor":{"account":{"homePage":"http://p","name":"k"}},"edition":+1} => token-1: Desk 400 J2
+POST /desk/registrations {"course":"http://c/1","actor":{"account":{"homePage":"http://p","name":"k"}},"edition":1.} => token-1: Desk 400 J2
+POST /desk/registrations {"course":"http://c/1","actor":{"account":{"homePage":"http://p","name":"k"}},"edition":.5} => token-1: Desk 400 J2
+POST /desk/registrations {"course":"http://c/1","actor":{"account":{"homePage":"http://p","name":"k"}},"edition":0x1} => token-1: Desk 400 J2
+POST /desk/registrations {"course":"http://c/1","actor":{"account":{"homePage":"http://p","name":"k"}},"edition":} => token-1: Desk 400 J2
+POST /desk/registrations {"course":"http://c/1","actor":{"account":{"homePage":"http://p","name":"k"}},"edition":1,"edition":1} => token-1: Desk 400 J3
+POST /desk/registrations {"course":"http://c/1","actor":{"account":{"homePage":"http://p","name":"k"}},"edition":1e1000} => token-1: Desk 400 J4
+POST /desk/registrations {"course":"http://c/1","actor":{"account":{"homePage":"http://p","name":"k"}},"editions":1} => token-1: Desk 400 B1
+POST /desk/registrations {"course":"http://c/1","actor":{"account":{"homePage":"http://p","name":"k"}},"Edition":1} => token-1: Desk 400 B1
+POST /desk/registrations {"course":"http://c/1","edition":1} => token-1: Desk 400 B1
+POST /desk/registrations {"actor":{"account":{"homePage":"http://p","name":"k"}},"edition":1} => token-1: Desk 400 B1
+POST /desk/registrations {"edition":0} => token-1: Desk 400 B1
+POST /desk/registrations {"course":"http://c/1","actor":{"account":{"homePage":"http://p","name":"k"}},"edition":0,"more":1} => token-1: Desk 400 B1
+POST /desk/registrations {"course":"http://c/1","actor":{},"edition":0} => token-1: Desk 400 B3
+POST /desk/registrations {"course":"c","actor":{},"edition":0} => token-1: Desk 400 B3
+POST /desk/registrations {"course":"c","actor":{"account":{"homePage":"http://p","name":"k"}},"edition":0} => token-1: Desk 400 B8
+POST /desk/registrations {"course":"c","actor":{"account":{"homePage":"http://p","name":"k"}},"edition":1} => token-1: Desk 400 B8
+POST /desk/registrations {"course":5,"actor":{"account":{"homePage":"http://p","name":"k"}},"edition":null} => token-1: Desk 400 B8
+"#;
+
+#[test]
+fn reads_editions(rt: HostRuntime) -> Result<(), Fail> {
+    check_rows(rt.alloc(), EDITIONS)
 }
 
 // Which Agents can be enrolled.
