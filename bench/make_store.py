@@ -3,13 +3,15 @@
 the journal, for measuring and for holding the program against it.
 
     make_store.py FILE N [--format 1|2] [--limit BYTES] [--table ROWS] [--documents M] [--refer chain|circle]
+                         [--courses C [--editions E] [--units U]]
 
 The format is 2 if it isn't said; 1 is that of version 0.1.0, for migrations.
 ROWS is a second file: the same statements as rows of a table, each a place, a verb, the name of its agent, a registration
 and the text that a page shows of it, parted by tabs.
 Statement i has the id 00000000-0000-4000-8000-<i in twelve hexadecimal digits>. M state documents of 1,024 bytes come
 after the statements: document i is s<i mod 10> of the agent u<i / 10>. With --refer each statement refers to the one
-before it; in a circle the first refers to the last, in a chain to none."""
+before it; in a circle the first refers to the last, in a chain to none. Last come C courses, http://c.invalid/0 and so on,
+of U units each (1 if it isn't said; 87 make 20 kB), all of them E times, each time with another title."""
 import argparse
 import datetime
 import json
@@ -74,6 +76,23 @@ def document(i):
     }
 
 
+def unit(i):
+    return {
+        "kind": "unit",
+        "id": f"http://c.invalid/u{i}",
+        "title": {"en": f"Unit {i}"},
+        "description": {"en": "A part of a course that was made up for measuring."},
+        "url": f"https://content.invalid/u{i}/index.html",
+        "moveOn": "Passed",
+        "masteryScore": 0.80,
+    }
+
+
+def course(i, edition, units):
+    title = {"en": f"Course {i}, edition {edition}"}
+    return {"id": f"http://c.invalid/{i}", "title": title, "children": [unit(place) for place in range(units)]}
+
+
 class Store:
     """A store that is written frame by frame."""
 
@@ -99,6 +118,9 @@ def main():
     words.add_argument("--table")
     words.add_argument("--documents", type=int, default=0)
     words.add_argument("--refer", choices=["chain", "circle"])
+    words.add_argument("--courses", type=int, default=0)
+    words.add_argument("--editions", type=int, default=1)
+    words.add_argument("--units", type=int, default=1)
     words = words.parse_args()
     with open(words.file, "wb") as out:
         store = Store(out, words.format, words.limit)
@@ -109,6 +131,9 @@ def main():
             store.add(entry(MOMENT + i, f"{i:032x}{i:032x}", put))
         for i in range(words.documents):
             store.add(entry(MOMENT + words.number + i, f"{i:032x}{i:032x}", {"state": document(i)}))
+        for i in range(words.courses * words.editions):
+            tree = course(i % words.courses, i // words.courses + 1, words.units)
+            store.add(entry(MOMENT + words.number + words.documents + i, f"{i:032x}{i:032x}", {"course": {"tree": tree}}))
         store.end()
     if words.table is not None:
         with open(words.table, "wb") as out:

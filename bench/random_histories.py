@@ -1,14 +1,15 @@
 #!/usr/bin/env python3
 """Compares what the server answers of courses and their learners with plain folds over the list of all statements, in
-histories that are made up at random: several registrations of one course, launches in each mode, fetches, sessions that
-say each verb in any order, rightly and wrongly, alone and in batches, repeats, waivers, abandoned and swept sessions,
-statements that an admin voids before and after they come, and a server that is killed and started again.
+histories that are made up at random: courses that are corrected, several registrations in several editions of them,
+launches in each mode, fetches, sessions that say each verb in any order, rightly and wrongly, alone and in batches,
+repeats, waivers, abandoned and swept sessions, statements that an admin voids before and after they come, and a server
+that is killed and started again.
 
   bench/random_histories.py PROGRAM SEED HISTORIES [STEPS]     80 steps a history, if not said otherwise
 
 Each answer is compared, each statement that a step brings, also those that the store makes itself, and after each step
 how far the learner of each registration has come. The folds follow docs/FORMATS.md. Prints the seed, how many
-histories, statements and comparisons there were, and which refusals. At the first difference it prints the history's
+histories, editions, statements and comparisons there were, and which refusals. At the first difference it prints the history's
 seed, its last steps, and both sides, and ends with status 1. So it does where an answer is missing or has another form.
 """
 import calendar
@@ -205,10 +206,10 @@ class Held:
 
 
 class Course:
-    """A course, and its nodes in the order of the text."""
+    """An edition of a course, and its nodes in the order of the text. Its number among all editions is in their ids."""
 
-    def __init__(self, tree, number):
-        self.tree, self.id, self.nodes = tree, tree["id"], []
+    def __init__(self, tree, number, edition):
+        self.tree, self.id, self.edition, self.nodes = tree, tree["id"], edition, []
         self.add(tree, "course", None, number)
 
     def add(self, tree, kind, parent, number):
@@ -796,33 +797,56 @@ class History:
             nodes = [
                 {"id": node["id"], "kind": node["kind"], "satisfied": met} for node, met in zip(course.nodes, told)
             ]
-            wanted = {"registration": registration.id, "course": course.id, "satisfied": told[0], "nodes": nodes}
+            wanted = {
+                "registration": registration.id, "course": course.id, "edition": course.edition,
+                "satisfied": told[0], "nodes": nodes,
+            }
             path = f"/desk/registrations/{registration.id}"
             self.check(path, self.server.ask("GET", path)[:2], (200, wanted))
 
     # ---- courses and registrations
 
+    def editions(self, id):
+        return [course for course in self.courses if course.id == id]
+
+    def take_up(self, tree):
+        """A course is an edition of its id, unless it is the same as the newest."""
+        earlier = self.editions(tree["id"])
+        same = earlier != [] and earlier[-1].tree == tree
+        edition = len(earlier) + (0 if same else 1)
+        answer = (200, {"course": tree["id"], "edition": edition})
+        self.check("a course", self.ask("POST", "/desk/courses", tree), answer)
+        if not same:
+            self.courses.append(Course(tree, len(self.courses), edition))
+        self.take_in([], kept=not same)
+
     def add_course(self):
-        number = len(self.courses)
-        tree = self.maker.course(number)
-        self.check("a course", self.ask("POST", "/desk/courses", tree), (200, {"course": tree["id"]}))
-        self.courses.append(Course(tree, number))
-        self.take_in([])
+        self.take_up(self.maker.course(len({course.id for course in self.courses})))
 
     def course_again(self):
+        """The newest edition or an earlier one, one of them with another title, or a corrected course."""
         course = self.random.choice(self.courses)
         if self.maker.chance(0.5):
-            answer = (200, {"course": course.id})
-            self.check("a course again", self.ask("POST", "/desk/courses", course.tree), answer)
+            self.take_up(course.tree)
+        elif self.maker.chance(0.5):
+            self.take_up({**course.tree, "title": {"en": "Another"}})
         else:
-            other = {**course.tree, "title": {"en": "Another"}}
-            answer = self.ask("POST", "/desk/courses", other)
-            self.check("another course", answer, (409, {"error": "409", "id": course.id}))
-        self.take_in([], kept=False)
+            self.take_up({**self.maker.course(0), "id": course.id})
 
     def enrol(self):
         course, actor = self.random.choice(self.courses[:1] * 3 + self.courses), self.maker.actor()
-        status, body = self.ask("POST", "/desk/registrations", {"course": course.id, "actor": actor})
+        wanted, editions = {"course": course.id, "actor": actor}, self.editions(course.id)
+        if self.registrations and self.maker.chance(0.1):
+            answer = self.ask("POST", "/desk/registrations", {**wanted, "edition": len(editions) + 1})
+            self.check("an edition that isn't there", answer, (404, {"error": "404"}))
+            self.note(answer)
+            self.take_in([], kept=False)
+            return
+        if self.maker.chance(0.5):
+            wanted["edition"] = course.edition
+        else:
+            course = editions[-1]
+        status, body = self.ask("POST", "/desk/registrations", wanted)
         self.check("an enrolment", (status, list(body)), (200, ["registration"]))
         self.check_new("a registration", body["registration"])
         registration = Registration(body["registration"], course, actor)
@@ -1136,7 +1160,7 @@ class History:
             self.abandon: 3,
             self.sweep: 2,
             self.enrol: 3 if len(self.registrations) < 6 else 0,
-            self.course_again: 1,
+            self.course_again: 4,
             self.barred: 0.5,
             self.nowhere: 0.5,
             self.restart: 0.7,
@@ -1159,7 +1183,7 @@ def main():
     program, seed, histories = sys.argv[1], int(sys.argv[2]), int(sys.argv[3])
     steps = int(sys.argv[4]) if len(sys.argv) == 5 else 80
     print(f"seed {seed}", flush=True)
-    statements = comparisons = 0
+    editions = statements = comparisons = 0
     refused = collections.Counter()
     with tempfile.TemporaryDirectory() as folder:
         for number in range(histories):
@@ -1174,11 +1198,13 @@ def main():
                 sys.exit(1)
             finally:
                 history.server.stop()
-            statements, comparisons = statements + len(history.statements), comparisons + history.comparisons
+            editions, statements = editions + len(history.courses), statements + len(history.statements)
+            comparisons += history.comparisons
             refused += history.refused
     told = ", ".join(f"{rule} {count}" for rule, count in sorted(refused.items(), key=lambda one: (len(one[0]), one)))
     print(f"refused: {told}")
-    print(f"{histories} histories of {steps} steps: {statements} statements, {comparisons} comparisons: no difference")
+    told = f"{editions} editions, {statements} statements, {comparisons} comparisons"
+    print(f"{histories} histories of {steps} steps: {told}: no difference")
 
 
 if __name__ == "__main__":
